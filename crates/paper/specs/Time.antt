@@ -1,0 +1,84 @@
+-- "Time rules": a week 0 to 65535 and a time of week 0 to 604799.
+use Prim.Native.Nat.{ℕ, _+_, _*_, _/_, _%_}
+use mathlib.Core.Bool.{Bool, cond, _&&_}
+use mathlib.Core.List.{[], _∷_}
+use lib.Dec.{leb, ltb, eqb}
+use lib.IntN.{ℤ, pos, negsuc, natAbs, _+ℤ_, _-ℤ_, _*ℤ_}
+use lib.Signed.{leZ, quotZ}
+use Rattle.paper.specs.Number.{Answer, done, refused}
+
+-- the seconds of a week
+abbrev pub weekSeconds : ℕ
+weekSeconds = 604800
+
+-- "30 s subframes"
+abbrev pub subframeSeconds : ℕ
+subframeSeconds = 30
+
+-- the subframes of a week
+abbrev pub weekSubframes : ℕ
+weekSubframes = 20160
+
+-- "A week 0 to 65535"
+abbrev pub lastWeek : ℕ
+lastWeek = 65535
+
+-- "Subframes outside −71582788 to 71582788"
+abbrev pub mostSubframes : ℕ
+mostSubframes = 71582788
+
+-- "time of week above 604799" is 5: the test that it is not
+abbrev pub isTime : ℕ → Bool
+isTime t = ltb t weekSeconds
+
+-- "is it a start"
+abbrev pub isStart : ℕ → Bool
+isStart t = eqb (t % subframeSeconds) 0
+
+-- "start of the subframe"
+abbrev pub startOf : ℕ → ℕ
+startOf t = t / subframeSeconds * subframeSeconds
+
+-- the seconds from the start of week 0 to week w, time t
+abbrev pub secondsOf : ℕ → ℕ → ℕ
+secondsOf w t = w * weekSeconds + t
+
+-- the time so many seconds from the start of week 0; 7 if "the week leaves 0 to 65535"
+unfoldable pub timeAt : ℤ → Answer
+timeAt (pos s) = cond (leb (s / weekSeconds) lastWeek) (done (s / weekSeconds ∷ s % weekSeconds ∷ [])) (refused 7)
+timeAt (negsuc s) = refused 7
+
+-- "Adding s seconds gives the exact sum; refused with 7 if s ≤ −604800"
+unfoldable pub sumOf : ℕ → ℕ → ℤ → Answer
+sumOf w t s = cond (leZ s (negsuc 604799)) (refused 7) (timeAt (pos (secondsOf w t) +ℤ s))
+
+-- the call: 5, then 7
+unfoldable pub addSeconds : ℕ → ℕ → ℤ → Answer
+addSeconds w t s = cond (isTime t) (sumOf w t s) (refused 5)
+
+-- the call: 5, then 7 for too many subframes or for the sum
+unfoldable pub addSubframes : ℕ → ℕ → ℤ → Answer
+addSubframes w t k =
+    cond (isTime t)
+    (cond (leb (natAbs k) mostSubframes) (sumOf w t (k *ℤ pos subframeSeconds)) (refused 7))
+    (refused 5)
+
+-- the call: the start of the subframe, or 5
+unfoldable pub subframeOf : ℕ → ℕ → Answer
+subframeOf w t = cond (isTime t) (done (w ∷ startOf t ∷ [])) (refused 5)
+
+-- the call: 1 for a start, else 0, or 5
+unfoldable pub isSubframe : ℕ → ℕ → Answer
+isSubframe w t = cond (isTime t) (done (cond (isStart t) 1 0 ∷ [])) (refused 5)
+
+-- what the call for a difference answers
+pub data Difference : Type 0 where
+  subframes : ℤ → Difference
+  noDifference : ℕ → Difference
+
+-- "(weeks apart) × 20160 plus (times of week apart) / 30, that quotient rounded toward zero"; 5 for either time
+unfoldable pub difference : ℕ → ℕ → ℕ → ℕ → Difference
+difference w t w' t' =
+    cond (isTime t && isTime t')
+    (subframes ((pos w -ℤ pos w') *ℤ pos weekSubframes +ℤ quotZ (pos t -ℤ pos t') (pos subframeSeconds)))
+    (noDifference 5)
