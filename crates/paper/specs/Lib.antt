@@ -4,3 +4,14 @@ pub mod Satellite
 pub mod Bits
 pub mod Parts
 pub mod Big
+pub mod Record
+pub mod Word
+pub mod Room
+pub mod Store
+pub mod Fresh
+pub mod Feed
+pub mod Tag
+pub mod Ask
+pub mod Reset
+pub mod Answer
+pub mod Call

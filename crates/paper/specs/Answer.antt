@@ -1,0 +1,120 @@
+-- "Numbers handed back", call by call: the number in the paper's order, the answer, the part, and the room afterwards.
+use Prim.Native.Nat.{ℕ}
+use mathlib.Core.Bool.{Bool, cond, not, _&&_}
+use mathlib.Core.List.{List, [], _∷_}
+use lib.ListN.{getD, length}
+use lib.Dec.{leb, eqb}
+use Rattle.paper.specs.Number.{Answer, number, values, answer, unless}
+use Rattle.paper.specs.Time.{isTime, isStart, startOf}
+use Rattle.paper.specs.Satellite.{isSatellite}
+use Rattle.paper.specs.Record.{Family, count, dataOf}
+use Rattle.paper.specs.Room.{roomSize}
+use Rattle.paper.specs.Store.{sizesAllowed, isStore}
+use Rattle.paper.specs.Fresh.{fresh}
+use Rattle.paper.specs.Feed.{fed}
+use Rattle.paper.specs.Tag.{kindKnown, familyOf, copAllowed, lengthAllowed, statusKnown, statusAdds, thirtyBefore, candidateRecord, hasCandidate, givenAgrees, tagged, takenBy}
+use Rattle.paper.specs.Ask.{answeringRow, answeringRecord, someEnough, timeBefore}
+use Rattle.paper.specs.Reset.{reset}
+
+-- "change no byte": the room where the number is not 0
+abbrev pub roomFor : ℕ → List ℕ → List ℕ → List ℕ
+roomFor k after room = cond (eqb k 0) after room
+
+-- "hands out an empty one": the part where the number is not 0
+abbrev pub partFor : ℕ → List ℕ → List ℕ
+partFor k part = cond (eqb k 0) part []
+
+-- "fresh 1, 2"
+unfoldable pub freshNumber : ℕ → ℕ → List ℕ → ℕ
+freshNumber d n room = unless (sizesAllowed d n) 1 (unless (leb (roomSize d n) (length room)) 2 0)
+
+abbrev pub freshAnswer : ℕ → ℕ → List ℕ → Answer
+freshAnswer d n room = answer (freshNumber d n room) []
+
+unfoldable pub freshRoom : ℕ → ℕ → List ℕ → List ℕ
+freshRoom d n room = roomFor (freshNumber d n room) (fresh d n room) room
+
+-- "Word 3, 4, 5, 8, 9"
+unfoldable pub feedNumber : List ℕ → ℕ → ℕ → ℕ → List ℕ → ℕ
+feedNumber word sat t band room =
+    unless (isStore room) 3
+    (unless (isSatellite sat) 4 (unless (isTime t) 5 (unless (eqb (length word) 16) 8 (unless (leb band 1) 9 0))))
+
+abbrev pub feedAnswer : List ℕ → ℕ → ℕ → ℕ → List ℕ → Answer
+feedAnswer word sat t band room = answer (feedNumber word sat t band room) []
+
+-- "The word's time is cut to its subframe T"
+unfoldable pub feedRoom : List ℕ → ℕ → ℕ → ℕ → ℕ → List ℕ → List ℕ
+feedRoom word sat w t band room =
+    roomFor (feedNumber word sat t band room) (fed w (startOf t) sat band word room) room
+
+-- "Tag 3, 4, 5, 6, 8, 9, 7, 16, 10", and what comes later
+unfoldable pub untilCandidate : Bool → Bool → ℕ → ℕ → ℕ → ℕ → ℕ → List ℕ → ℕ → ℕ
+untilCandidate allowed known sat kind cop w t room later =
+    unless (isStore room) 3
+    (unless (isSatellite sat) 4
+    (unless (isTime t) 5
+    (unless (isStart t) 6
+    (unless allowed 8
+    (unless known 9
+    (unless (eqb (number (thirtyBefore w t)) 0) 7
+    (unless (not (eqb cop 0)) 16 (unless (hasCandidate (familyOf kind) sat cop w t room) 10 later))))))))
+
+-- "11, 17, 18, 0"
+unfoldable pub tagNumber : ℕ → ℕ → ℕ → ℕ → ℕ → ℕ → ℕ → List ℕ → Bool → List ℕ → ℕ
+tagNumber sat kind cop l status w t given verdict room =
+    untilCandidate (copAllowed cop && lengthAllowed l) (kindKnown kind && statusKnown status) sat kind cop w t room
+    (unless (givenAgrees (familyOf kind) given (candidateRecord (familyOf kind) sat w t room)) 11
+    (unless verdict 17 (unless (statusAdds status) 18 0)))
+
+-- "0 done; for a tag, with how many records took it"
+unfoldable pub tagAnswer : ℕ → ℕ → ℕ → ℕ → ℕ → ℕ → ℕ → List ℕ → Bool → List ℕ → Answer
+tagAnswer sat kind cop l status w t given verdict room =
+    answer (tagNumber sat kind cop l status w t given verdict room)
+    (takenBy (familyOf kind) (candidateRecord (familyOf kind) sat w t room) room ∷ [])
+
+unfoldable pub tagRoom : ℕ → ℕ → ℕ → ℕ → ℕ → ℕ → ℕ → List ℕ → Bool → List ℕ → List ℕ
+tagRoom sat kind cop l status w t given verdict room =
+    roomFor (tagNumber sat kind cop l status w t given verdict room)
+    (tagged (familyOf kind) (candidateRecord (familyOf kind) sat w t room) l room)
+    room
+
+-- "showing the candidate is the same up to 10"
+unfoldable pub candidateNumber : ℕ → ℕ → ℕ → ℕ → ℕ → List ℕ → ℕ
+candidateNumber sat kind cop w t room = untilCandidate (copAllowed cop) (kindKnown kind) sat kind cop w t room 0
+
+abbrev pub candidateAnswer : ℕ → ℕ → ℕ → ℕ → ℕ → List ℕ → Answer
+candidateAnswer sat kind cop w t room = answer (candidateNumber sat kind cop w t room) []
+
+-- "shows the candidate's data as part of the room"
+unfoldable pub candidateData : ℕ → ℕ → ℕ → ℕ → ℕ → List ℕ → List ℕ
+candidateData sat kind cop w t room =
+    partFor (candidateNumber sat kind cop w t room)
+    (dataOf (familyOf kind) (candidateRecord (familyOf kind) sat w t room))
+
+-- "Asking 3, 4, 12, 7"
+unfoldable pub askNumber : Family → ℕ → List ℕ → ℕ
+askNumber f sat room =
+    unless (isStore room) 3
+    (unless (isSatellite sat) 4
+    (unless (someEnough f sat room) 12
+    (unless (eqb (number (timeBefore f (answeringRow f sat room) (answeringRecord f sat room))) 0) 7 0)))
+
+-- "its data, its count, and its row's subframe less 30 s × its least age"
+unfoldable pub askAnswer : Family → ℕ → List ℕ → Answer
+askAnswer f sat room =
+    let rec = answeringRecord f sat room in
+    answer (askNumber f sat room) (count rec ∷ values (timeBefore f (answeringRow f sat room) rec))
+
+unfoldable pub askData : Family → ℕ → List ℕ → List ℕ
+askData f sat room = partFor (askNumber f sat room) (dataOf f (answeringRecord f sat room))
+
+-- "Reset 3"
+unfoldable pub resetNumber : List ℕ → ℕ
+resetNumber room = unless (isStore room) 3 0
+
+abbrev pub resetAnswer : List ℕ → Answer
+resetAnswer room = answer (resetNumber room) []
+
+unfoldable pub resetRoom : List ℕ → List ℕ
+resetRoom room = roomFor (resetNumber room) (reset room) room

@@ -1,0 +1,51 @@
+-- "What asking does".
+use Prim.Native.Nat.{ℕ, _+_, _-_}
+use mathlib.Core.Bool.{Bool, cond, _&&_}
+use mathlib.Core.List.{List}
+use lib.Dec.{leb, ltb, eqb}
+use lib.IntN.{pos, negℤ}
+use Rattle.paper.specs.Number.{Answer}
+use Rattle.paper.specs.Parts.{first}
+use Rattle.paper.specs.Record.{Family, satellite, count, agesOf, least}
+use Rattle.paper.specs.Room.{depth, slots, current, rowOf, week, time, recordOf}
+use Rattle.paper.specs.Time.{addSubframes}
+
+-- "a count of at least 40"
+abbrev pub leastCount : ℕ
+leastCount = 40
+
+unfoldable pub hasEnough : ℕ → List ℕ → Bool
+hasEnough sat rec = eqb (satellite rec) sat && leb leastCount (count rec)
+
+-- the first slot of a row that answers; the number of slots where there is none
+unfoldable pub enoughSlot : Family → ℕ → ℕ → List ℕ → ℕ
+enoughSlot f sat n row = first (λ (i : ℕ). hasEnough sat (recordOf f i row)) n
+
+-- "From the current row backward through the ring": the row j before row c of d
+unfoldable pub rowBack : ℕ → ℕ → ℕ → ℕ
+rowBack d c j = cond (leb j c) (c - j) (d + c - j)
+
+-- how many rows back the first row that answers lies; the number of rows where there is none
+unfoldable pub stepsBack : Family → ℕ → List ℕ → ℕ
+stepsBack f sat room =
+    first
+    (λ (j : ℕ). ltb (enoughSlot f sat (slots room) (rowOf (rowBack (depth room) (current room) j) room)) (slots room))
+    (depth room)
+
+-- the row that answers
+unfoldable pub answeringRow : Family → ℕ → List ℕ → List ℕ
+answeringRow f sat room = rowOf (rowBack (depth room) (current room) (stepsBack f sat room)) room
+
+-- the record that answers
+unfoldable pub answeringRecord : Family → ℕ → List ℕ → List ℕ
+answeringRecord f sat room =
+    let row = answeringRow f sat room in
+    recordOf f (enoughSlot f sat (slots room) row) row
+
+-- "no record of the satellite has 40" is 12: the test that one has
+unfoldable pub someEnough : Family → ℕ → List ℕ → Bool
+someEnough f sat room = ltb (stepsBack f sat room) (depth room)
+
+-- "its row's subframe less 30 s × its least age"
+unfoldable pub timeBefore : Family → List ℕ → List ℕ → Answer
+timeBefore f row rec = addSubframes (week row) (time row) (negℤ (pos (least (agesOf f rec))))

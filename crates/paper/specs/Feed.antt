@@ -1,0 +1,80 @@
+-- "What a word does": the ring, the choice of a record, and the room after a word.
+use Prim.Native.Nat.{ℕ, zero, suc, _+_, _*_}
+use mathlib.Core.Bool.{Bool, cond, not, _&&_}
+use mathlib.Core.List.{List}
+use lib.ListN.{set}
+use lib.Dec.{leb, ltb, eqb}
+use Rattle.paper.specs.Big.{put16, put32}
+use Rattle.paper.specs.Parts.{part, onPart}
+use Rattle.paper.specs.Record.{Family, CED, Timing, size, satellite, agesOf, aged, greatest}
+use Rattle.paper.specs.Room.{slotSize, rowSize, depth, slots, current, rowAt, rowOf, marked, isAt, recordAt, recordOf, eachRecord}
+use Rattle.paper.specs.Word.{fedRecord}
+
+-- "the next row (after the last comes row 0)"
+unfoldable pub nextRow : ℕ → ℕ → ℕ
+nextRow d c = cond (ltb (c + 1) d) (c + 1) 0
+
+-- "If the current row has a subframe other than T": T is week w, time t
+unfoldable pub moves : ℕ → ℕ → List ℕ → Bool
+moves w t room = let row = rowOf (current room) room in marked row && not (isAt w t row)
+
+-- "takes a copy of all records": those of the row at `from` in the row at `to`
+unfoldable pub copied : ℕ → ℕ → ℕ → List ℕ → List ℕ
+copied n from to room =
+    let records = part (from + 8) (n * slotSize) room in
+    onPart (λ (_ : List ℕ). records) (to + 8) (n * slotSize) room
+
+-- "all its ages rise by one, held at 255"
+unfoldable pub agedRow : ℕ → List ℕ → List ℕ
+agedRow n row = let c = eachRecord CED n (aged CED 1) row in eachRecord Timing n (aged Timing 1) c
+
+-- "the next row .. takes a copy of all records, becomes current, and all its ages rise by one"
+unfoldable pub advanced : List ℕ → List ℕ
+advanced room =
+    let n = slots room in
+    let to = nextRow (depth room) (current room) in
+    let c = copied n (rowAt n (current room)) (rowAt n to) room in
+    onPart (agedRow n) (rowAt n to) (rowSize n) (set c 2 to)
+
+-- "marked T"
+unfoldable pub markedAt : ℕ → ℕ → List ℕ → List ℕ
+markedAt w t row = let m = put16 (set row 0 1) 1 w in put32 m 3 t
+
+-- "The current row is then marked T"
+unfoldable pub currentMarked : ℕ → ℕ → List ℕ → List ℕ
+currentMarked w t room = onPart (markedAt w t) (rowAt (slots room) (current room)) (rowSize (slots room)) room
+
+-- the ring before the records of the current row are chosen
+unfoldable pub settled : ℕ → ℕ → List ℕ → List ℕ
+settled w t room = let r = cond (moves w t room) (advanced room) room in currentMarked w t r
+
+-- "257 for the same satellite, 256 for none, else its greatest age"
+unfoldable pub key : Family → ℕ → List ℕ → ℕ
+key f sat rec = cond (eqb (satellite rec) sat) 257 (cond (eqb (satellite rec) 0) 256 (greatest (agesOf f rec)))
+
+-- "the place of the greatest key, the last of equals", among the first n places
+unfoldable pub lastGreatest : (ℕ → ℕ) → ℕ → ℕ
+lastGreatest k zero = 0
+lastGreatest k (suc n) = let b = lastGreatest k n in cond (leb (k b) (k n)) n b
+
+-- the slot chosen in a row of n
+unfoldable pub chosen : Family → ℕ → ℕ → List ℕ → ℕ
+chosen f sat n row = lastGreatest (λ (i : ℕ). key f sat (recordOf f i row)) n
+
+-- "one CED record and one timing record of the current row is chosen": the row after one of them took the word
+unfoldable pub fedFamily : Family → ℕ → ℕ → ℕ → List ℕ → List ℕ → List ℕ
+fedFamily f n sat band word row =
+    let i = chosen f sat n row in
+    onPart (fedRecord f sat band word) (recordAt f i) (size f) row
+
+unfoldable pub fedRow : ℕ → ℕ → ℕ → List ℕ → List ℕ → List ℕ
+fedRow n sat band word row =
+    let c = fedFamily CED n sat band word row in
+    fedFamily Timing n sat band word c
+
+-- the room after a word of subframe w, t
+unfoldable pub fed : ℕ → ℕ → ℕ → ℕ → List ℕ → List ℕ → List ℕ
+fed w t sat band word room =
+    let s = settled w t room in
+    let n = slots s in
+    onPart (fedRow n sat band word) (rowAt n (current s)) (rowSize n) s

@@ -1,0 +1,26 @@
+-- "Fresh room": all rows blank, row 0 current, data zero, ages 255, no satellites, counts 0.
+use Prim.Native.Nat.{ℕ}
+use mathlib.Core.List.{List, _∷_, _++_}
+use lib.ListN.{replicate}
+use Rattle.paper.specs.Parts.{onPart, onParts}
+use Rattle.paper.specs.Record.{CED, Timing, blankRecord}
+use Rattle.paper.specs.Room.{slotSize, rowSize}
+
+-- "D, N, current row, five zeros"
+abbrev pub header : ℕ → ℕ → List ℕ
+header d n = d ∷ n ∷ replicate 6 0
+
+unfoldable pub blankSlot : List ℕ
+blankSlot = blankRecord CED ++ blankRecord Timing
+
+-- a blank row: mark, week, time and spare 0, and N blank slots
+unfoldable pub blankRow : ℕ → List ℕ → List ℕ
+blankRow n row =
+    let h = onPart (λ (_ : List ℕ). replicate 8 0) 0 8 row in
+    onParts (λ (_ : List ℕ). blankSlot) slotSize n 8 h
+
+-- the room with a fresh store of D rows and N slots at its start
+unfoldable pub fresh : ℕ → ℕ → List ℕ → List ℕ
+fresh d n room =
+    let h = onPart (λ (_ : List ℕ). header d n) 0 8 room in
+    onParts (blankRow n) (rowSize n) d 8 h

@@ -1,0 +1,75 @@
+-- Refusal 3, "not a store": the test that a room is one, clause by clause.
+use Prim.Native.Nat.{ℕ, _+_, _-_, _%_}
+use mathlib.Core.Bool.{Bool, cond, not, _&&_, _||_}
+use mathlib.Core.List.{List}
+use lib.ListN.{getD, length}
+use lib.Dec.{leb, ltb, eqb}
+use Rattle.paper.specs.Big.{be32}
+use Rattle.paper.specs.Parts.{part, allParts}
+use Rattle.paper.specs.Record.{Family, CED, Timing, size, satellite, count}
+use Rattle.paper.specs.Room.{mostRows, mostSlots, slotSize, base, rowSize, roomSize, depth, slots, current, mark, week, time, spare}
+use Rattle.paper.specs.Satellite.{mostSatellites}
+
+-- "D or N outside its range": the test that neither is
+abbrev pub sizesAllowed : ℕ → ℕ → Bool
+sizesAllowed d n = leb 1 d && leb d mostRows && leb 1 n && leb n mostSlots
+
+-- "D, N or current row outside its range", none of them
+unfoldable pub headerInRange : List ℕ → Bool
+headerInRange room = sizesAllowed (depth room) (slots room) && ltb (current room) (depth room)
+
+-- "a header zero .. not zero", none of the five
+unfoldable pub headerZeros : List ℕ → Bool
+headerZeros room = eqb (getD room 3 0) 0 && eqb (be32 room 4) 0
+
+-- "a satellite above 36"; in a blank row any satellite is one too many
+unfoldable pub satelliteAllowed : ℕ → List ℕ → Bool
+satelliteAllowed most rec = leb (satellite rec) most
+
+-- "a count without a satellite", and so a count in a blank row
+unfoldable pub countHasSatellite : List ℕ → Bool
+countHasSatellite rec = not (eqb (satellite rec) 0) || eqb (count rec) 0
+
+-- "a bit set past a record's 549 or 141": the last three bits of its last byte
+unfoldable pub noBitPast : Family → List ℕ → Bool
+noBitPast f rec = eqb (getD rec (size f - 1) 0 % 8) 0
+
+unfoldable pub recordAllowed : Family → ℕ → List ℕ → Bool
+recordAllowed f most rec = satelliteAllowed most rec && countHasSatellite rec && noBitPast f rec
+
+-- the two records of a slot
+unfoldable pub slotAllowed : ℕ → List ℕ → Bool
+slotAllowed most slot =
+    recordAllowed CED most (part (base CED) (size CED) slot)
+    && recordAllowed Timing most (part (base Timing) (size Timing) slot)
+
+-- "a row's spare byte not zero", "a mark not 0 or 1"
+unfoldable pub markAllowed : List ℕ → Bool
+markAllowed row = leb (mark row) 1 && eqb (spare row) 0
+
+-- "a marked row whose time is not a multiple of 30 up to 604770"
+unfoldable pub subframeAllowed : List ℕ → Bool
+subframeAllowed row = leb (time row) 604770 && eqb (time row % 30) 0
+
+-- "a blank row with a week, time .. not zero"
+unfoldable pub blankAllowed : List ℕ → Bool
+blankAllowed row = eqb (week row) 0 && eqb (time row) 0
+
+-- the satellites that a row may hold go up to this: none in a blank row
+unfoldable pub mostIn : List ℕ → ℕ
+mostIn row = cond (eqb (mark row) 0) 0 mostSatellites
+
+unfoldable pub rowAllowed : ℕ → List ℕ → Bool
+rowAllowed n row =
+    markAllowed row
+    && cond (eqb (mark row) 0) (blankAllowed row) (subframeAllowed row)
+    && allParts (slotAllowed (mostIn row)) slotSize n 8 row
+
+-- a room is a store: it has a header, "room shorter than the formula" does not hold, and every row is allowed
+unfoldable pub isStore : List ℕ → Bool
+isStore room =
+    leb 8 (length room)
+    && headerInRange room
+    && headerZeros room
+    && leb (roomSize (depth room) (slots room)) (length room)
+    && allParts (rowAllowed (slots room)) (rowSize (slots room)) (depth room) 8 room

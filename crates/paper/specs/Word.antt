@@ -1,0 +1,88 @@
+-- "What a word does": the table of words, and what a word does to one record.
+use Prim.Native.Nat.{ℕ, _+_, _-_, _/_}
+use mathlib.Core.Bool.{Bool, true, false, cond, not, _&&_, _||_}
+use mathlib.Core.List.{List, [], _∷_, _++_}
+use lib.ListN.{getD, set, replicate, drop}
+use lib.Dec.{eqb, leb}
+use Rattle.paper.specs.Bits.{moved, changed}
+use Rattle.paper.specs.Parts.{onPart}
+use Rattle.paper.specs.Record.{Family, CED, Timing, ages, dataAt, dataBytes, satellite, dataOf, withCount}
+
+-- a line of the table: type, "E1B only", record bits, word bits ("upper ends are excluded"), age
+pub record Line : Type 0 where
+  pub family : Family
+  pub type : ℕ
+  pub onlyE1B : Bool
+  pub recordFrom : ℕ
+  pub recordTo : ℕ
+  pub wordFrom : ℕ
+  pub wordTo : ℕ
+  pub age : ℕ
+
+abbrev line : Family → ℕ → Bool → ℕ → ℕ → ℕ → ℕ → ℕ → Line
+line f k e a b c d g =
+    record { family = f; type = k; onlyE1B = e; recordFrom = a; recordTo = b; wordFrom = c; wordTo = d; age = g }
+
+-- the table of document 01
+unfoldable pub table : List Line
+table =
+    line CED 1 false 0 120 6 126 0
+    ∷ line CED 2 false 120 240 6 126 1
+    ∷ line CED 3 false 240 362 6 128 2
+    ∷ line CED 4 false 362 482 6 126 3
+    ∷ line CED 5 false 482 549 6 73 4
+    ∷ line Timing 6 true 0 99 6 105 0
+    ∷ line Timing 10 true 99 141 86 128 1
+    ∷ []
+
+-- "the part of the record that the word owns": so many bits to a bit of the record from a bit of the word, and an age
+pub data Owned : Type 0 where
+  nothing : Owned
+  owns : ℕ → ℕ → ℕ → ℕ → Owned
+
+abbrev isFamily : Family → Family → Bool
+isFamily CED CED = true
+isFamily CED Timing = false
+isFamily Timing CED = false
+isFamily Timing Timing = true
+
+abbrev pick : Bool → Owned → Owned → Owned
+pick true a b = a
+pick false a b = b
+
+-- the line for a family, a type and a band ("Bands: 0 E1B, 1 E5B"), as what the word owns
+unfoldable pub ownedIn : List Line → Family → ℕ → ℕ → Owned
+ownedIn [] f k band = nothing
+ownedIn (l ∷ ls) f k band =
+    let r = ownedIn ls f k band in
+    pick (isFamily (l .family) f && eqb (l .type) k && (not (l .onlyE1B) || eqb band 0))
+    (owns (l .recordFrom) (l .wordFrom) (l .recordTo - l .recordFrom) (l .age))
+    r
+
+abbrev pub owned : Family → ℕ → ℕ → Owned
+owned f k band = ownedIn table f k band
+
+-- the type of a word, its first six bits
+abbrev pub typeOf : List ℕ → ℕ
+typeOf word = getD word 0 0 / 4
+
+-- "If it held another satellite, its ages become 255 and its count 0; its data stays. It takes the satellite"
+unfoldable pub taken : Family → ℕ → List ℕ → List ℕ
+taken f sat rec =
+    cond (eqb (satellite rec) sat || eqb (satellite rec) 0)
+    (set rec 0 sat)
+    (sat ∷ 0 ∷ 0 ∷ (replicate (ages f) 255 ++ drop (dataAt f) rec))
+
+-- "Only the part of the record that the word owns is written; if it changed, the count becomes 0. The age becomes 0."
+unfoldable pub written : Family → Owned → List ℕ → List ℕ → List ℕ
+written f nothing word rec = rec
+written f (owns to from n age) word rec =
+    let d = dataOf f rec in
+    let c = changed d to word from n in
+    let m = onPart (λ (x : List ℕ). moved x to word from n) (dataAt f) (dataBytes f) rec in
+    let a = set m (3 + age) 0 in
+    cond c (withCount 0 a) a
+
+-- the record that is chosen for a word
+unfoldable pub fedRecord : Family → ℕ → ℕ → List ℕ → List ℕ → List ℕ
+fedRecord f sat band word rec = let t = taken f sat rec in written f (owned f (typeOf word) band) word t
