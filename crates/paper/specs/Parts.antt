@@ -1,8 +1,12 @@
 -- Parts of a list of bytes: a change of one part, of several in a row, a test and a sum over them, and a first place.
-use Prim.Native.Nat.{ℕ, zero, suc, _+_}
+use Prim.Native.Nat.{ℕ, zero, suc, _+_, _<_}
 use mathlib.Core.Bool.{Bool, true, cond, _&&_}
 use mathlib.Core.List.{List, _++_}
-use lib.ListN.{take, drop}
+use lib.ListN.{take, drop, getD}
+
+-- every element is a byte
+abbrev pub Bytes : List ℕ → Type 0
+Bytes l = (k : ℕ) → getD l k 0 < 256
 
 -- the k bytes from `at`
 abbrev pub part : ℕ → ℕ → List ℕ → List ℕ
