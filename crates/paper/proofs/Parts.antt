@@ -1,0 +1,340 @@
+-- The laws of parts: what a part is after a change of it, before it or behind it; a loop over parts, one step and its end; the
+-- first place of a search; a copy within one list; lists of bytes. Assumes nothing.
+use native.Mathlib.Omega.{arith}
+use native.Mathlib.Nat.{suc-mul, not-suc-le-zero, le-of-suc-le-suc, sub-zero, zero-sub, suc-sub-suc, mul-le-mul-right, add-sub-cancel-left}
+use native.Mathlib.Numerals.{add-one}
+use native.Mathlib.Decide.{decLt, ℕ-discrete}
+use mathlib.Core.Path.{_≡_, refl, sym, ap, _∙_}
+use mathlib.Core.List.{List, [], _∷_, _++_, append-assoc}
+use mathlib.Core.Bool.{Bool, true, false, cond, _&&_}
+use mathlib.Core.Logic.{_⊎_, ⊎-elim}
+use Prim.Native.Nat.{ℕ, zero, suc, _+_, _*_, _-_, _≤_, _<_}
+use lib.ListN.{length, take, drop, getD, set, replicate, length-append, length-take, length-drop, List·getD-append, take-append-drop}
+use lib.Seq.{take-nil, take-take, drop-drop, take-at, drop-at, take-append-le, drop-append-le, take-add, length-take-le, getD-take, getD-drop, getD-append-add, paste, paste-suc, length-paste-head}
+use borrow.Rule.Slice.PartMut.{same-len-mid, take-put, drop-put, put-same, set-mid-at}
+use Rattle.paper.specs.Parts.{Bytes, part, onPart, onParts, allParts, sumParts, firstFrom, first}
+
+-- f keeps the length k
+abbrev pub Keeps : (List ℕ → List ℕ) → ℕ → Type 0
+Keeps f k = (r : List ℕ) → length r ≡ k → length (f r) ≡ k
+
+-- ---- where a part lies
+pub mul-step : (l z : ℕ) → 0 < l → l * z ≡ (l - 1) * z + z
+mul-step zero z h = absurd (omega arith)
+mul-step (suc k) z h = let e : suc k - 1 ≡ k = omega arith in rw (e, suc-mul)
+
+-- part number j of n lies within them
+pub mul-within : (j n k : ℕ) → j < n → j * k + k ≤ n * k
+mul-within j n k h = omega (arith, mul-le-mul-right k h, suc-mul j k)
+
+-- ---- a part
+drop-take : (a m : ℕ) (l : List ℕ) → drop a (take m l) ≡ take (m - a) (drop a l)
+drop-take zero m l = rw sub-zero
+drop-take (suc a) zero l = rw zero-sub
+drop-take (suc a) (suc m) [] = sym (take-nil (suc m - suc a))
+drop-take (suc a) (suc m) (x ∷ xs) = rw suc-sub-suc (drop-take a m xs)
+
+pub length-part : (at k : ℕ) (l : List ℕ) → at + k ≤ length l → length (part at k l) ≡ k
+length-part at k l h = simp (length-take, length-drop) (omega arith)
+
+pub part-part : (a k b m : ℕ) (l : List ℕ) → a + k ≤ m → part a k (part b m l) ≡ part (b + a) k l
+part-part a k b m l h =
+    ap (take k) (drop-take a m (drop b l)) ∙ take-take k (m - a) (drop a (drop b l)) (omega arith) ∙ ap (take k) (drop-drop a b l)
+
+pub getD-part : (at k : ℕ) (l : List ℕ) (i : ℕ) → i < k → getD (part at k l) i 0 ≡ getD l (at + i) 0
+getD-part at k l i h = getD-take k (drop at l) i 0 h ∙ getD-drop at l i 0
+
+-- a part is what the first at + k bytes have from `at` on
+pub part-of-take : (at k : ℕ) (l : List ℕ) → part at k l ≡ drop at (take (at + k) l)
+part-of-take at k l = sym (drop-take at (at + k) l ∙ ap (λ (n : ℕ). take n (drop at l)) (add-sub-cancel-left at k))
+
+-- the whole, from what lies before a part, the part, and what lies behind it
+pub three-parts : (at k : ℕ) (x y : List ℕ) → take at x ≡ take at y → part at k x ≡ part at k y → drop (at + k) x ≡ drop (at + k) y → x ≡ y
+three-parts at k x y a b c =
+    sym (whole x) ∙ (rw (a, b, c)) ∙ whole y
+  where
+    whole : (l : List ℕ) → take at l ++ (part at k l ++ drop (at + k) l) ≡ l
+    whole l = rw (← drop-drop k at l, take-append-drop k (drop at l)) (take-append-drop at l)
+
+-- lists that agree up to a have the same there
+pub take-less : (a b : ℕ) (x y : List ℕ) → take a x ≡ take a y → b ≤ a → take b x ≡ take b y
+take-less a b x y e h = sym (take-take b a x h) ∙ ap (take b) e ∙ take-take b a y h
+
+pub same-before : (a b m : ℕ) (x y : List ℕ) → take a x ≡ take a y → b + m ≤ a → part b m x ≡ part b m y
+same-before a b m x y e h = part-of-take b m x ∙ ap (drop b) (take-less a (b + m) x y e h) ∙ sym (part-of-take b m y)
+
+pub getD-same-before : (a i : ℕ) (x y : List ℕ) → take a x ≡ take a y → i < a → getD x i 0 ≡ getD y i 0
+getD-same-before a i x y e h = sym (getD-take a x i 0 h) ∙ ap (λ (l : List ℕ). getD l i 0) e ∙ getD-take a y i 0 h
+
+-- lists that agree from e on have the same there
+pub drop-more : (e b : ℕ) (x y : List ℕ) → drop e x ≡ drop e y → e ≤ b → drop b x ≡ drop b y
+drop-more e b x y q h =
+    let j : b ≡ e + (b - e) = omega arith in
+    rw j (sym (drop-drop (b - e) e x) ∙ ap (drop (b - e)) q ∙ drop-drop (b - e) e y)
+
+pub same-after : (e b m : ℕ) (x y : List ℕ) → drop e x ≡ drop e y → e ≤ b → part b m x ≡ part b m y
+same-after e b m x y q h = ap (take m) (drop-more e b x y q h)
+
+pub getD-same-after : (e i : ℕ) (x y : List ℕ) → drop e x ≡ drop e y → e ≤ i → getD x i 0 ≡ getD y i 0
+getD-same-after e i x y q h =
+    let j : i ≡ e + (i - e) = omega arith in
+    rw j (sym (getD-drop e x (i - e) 0) ∙ ap (λ (l : List ℕ). getD l (i - e) 0) q ∙ getD-drop e y (i - e) 0)
+
+-- ---- one part changed
+-- what comes back of a part that was lent
+pub part-back : (f : List ℕ → List ℕ) (a k e : ℕ) (l y : List ℕ) → e ≡ k → y ≡ f (take e (drop a l)) → take a l ++ (y ++ drop e (drop a l)) ≡ onPart f a k l
+unfolding onPart
+part-back f a k e l y q p = rw (p, q)
+
+-- the same, in the checker's own words: `&mut s[a..a + k]` is as long as a + k - a
+pub part-back-at : (f : List ℕ → List ℕ) (a k : ℕ) (l y : List ℕ) → y ≡ f (take (a + k - a) (drop a l))
+    → take a l ++ (y ++ drop (a + k - a) (drop a l)) ≡ onPart f a k l
+part-back-at f a k l y p = part-back f a k (a + k - a) l y (add-sub-cancel-left a k) p
+
+-- a part as the checker leaves it, `&s[a..a + k]`
+pub part-lent : (a k : ℕ) (l : List ℕ) → take (a + k - a) (drop a l) ≡ part a k l
+part-lent a k l = rw (add-sub-cancel-left a k)
+
+-- and its length: what a callee of a lent part asks
+pub length-lent : (a k : ℕ) (l : List ℕ) → a + k ≤ length l → length (take (a + k - a) (drop a l)) ≡ k
+length-lent a k l h = rw part-lent (length-part a k l h)
+
+-- a list with a part replaced by one as long is as long as it was
+pub length-back : (a k : ℕ) (l y : List ℕ) → a + k ≤ length l → length y ≡ length (take k (drop a l)) → length (take a l ++ (y ++ drop k (drop a l))) ≡ length l
+length-back a k l y h e = same-len-mid a k l y e
+
+-- what f does to the part is all that matters
+pub onPart-by : (f g : List ℕ → List ℕ) (at k : ℕ) (l : List ℕ) → f (part at k l) ≡ g (part at k l) → onPart f at k l ≡ onPart g at k l
+unfolding onPart
+onPart-by f g at k l e = rw e
+
+pub onPart-ext : (f g : List ℕ → List ℕ) (k : ℕ) → ((r : List ℕ) → length r ≡ k → f r ≡ g r)
+    → (at : ℕ) (l : List ℕ) → at + k ≤ length l → onPart f at k l ≡ onPart g at k l
+onPart-ext f g k same at l h = onPart-by f g at k l (same (part at k l) (length-part at k l h))
+
+-- a change that leaves the part as it is leaves the whole as it is
+pub onPart-none : (f : List ℕ → List ℕ) (at k : ℕ) (l : List ℕ) → f (part at k l) ≡ part at k l → onPart f at k l ≡ l
+unfolding onPart
+onPart-none f at k l e = rw e (put-same at k l)
+
+-- one byte of the part
+pub onPart-set : (at k i v : ℕ) (l : List ℕ) → at + k ≤ length l → i < k → onPart (λ r. set r i v) at k l ≡ set l (at + i) v
+unfolding onPart
+onPart-set at k i v l h g = set-mid-at at k i l v (omega (arith, length-part at k l h))
+
+module _ (f : List ℕ → List ℕ) (k : ℕ) (keep : Keeps f k) (at : ℕ) (l : List ℕ) (h : at + k ≤ length l) where
+  length-mid : length (f (part at k l)) ≡ k
+  length-mid = keep (part at k l) (length-part at k l h)
+
+  pub onPart-length : length (onPart f at k l) ≡ length l
+  unfolding onPart
+  onPart-length = same-len-mid at k l (f (part at k l)) (length-mid ∙ sym (length-part at k l h))
+
+  -- the part itself
+  pub onPart-part : part at k (onPart f at k l) ≡ f (part at k l)
+  unfolding onPart
+  onPart-part =
+      let r : List ℕ = f (part at k l) in
+      ap (take k) (drop-at (take at l) (r ++ drop k (drop at l)) at (length-take-le at l (omega arith))) ∙ take-at r (drop k (drop at l)) k length-mid
+
+  -- what lies before it
+  pub onPart-take : (b : ℕ) → b ≤ at → take b (onPart f at k l) ≡ take b l
+  unfolding onPart
+  onPart-take b g = take-less at b (onPart f at k l) l (take-put at k l (f (part at k l)) (omega arith)) g
+
+  pub onPart-before : (b m : ℕ) → b + m ≤ at → part b m (onPart f at k l) ≡ part b m l
+  onPart-before b m g = same-before at b m (onPart f at k l) l (onPart-take at (omega arith)) g
+
+  pub onPart-getD-before : (i : ℕ) → i < at → getD (onPart f at k l) i 0 ≡ getD l i 0
+  onPart-getD-before i g = getD-same-before at i (onPart f at k l) l (onPart-take at (omega arith)) g
+
+  -- what lies behind it
+  pub onPart-drop : (b : ℕ) → at + k ≤ b → drop b (onPart f at k l) ≡ drop b l
+  unfolding onPart
+  onPart-drop b g =
+      let e = add-sub-cancel-left at k in
+      drop-more (at + k) b (onPart f at k l) l (rw e at (drop-put at (at + k) l (f (part at k l)) (omega arith) h (length-mid ∙ sym e))) g
+
+  pub onPart-after : (b m : ℕ) → at + k ≤ b → part b m (onPart f at k l) ≡ part b m l
+  onPart-after b m g = ap (take m) (onPart-drop b g)
+
+  pub onPart-getD-after : (i : ℕ) → at + k ≤ i → getD (onPart f at k l) i 0 ≡ getD l i 0
+  onPart-getD-after i g = getD-same-after (at + k) i (onPart f at k l) l (onPart-drop (at + k) (omega arith)) g
+
+  -- what lies within it
+  pub onPart-within : (b m : ℕ) → b + m ≤ k → part (at + b) m (onPart f at k l) ≡ part b m (f (part at k l))
+  onPart-within b m g = sym (part-part b m at k (onPart f at k l) g) ∙ ap (part b m) onPart-part
+
+  pub onPart-getD-in : (i : ℕ) → i < k → getD (onPart f at k l) (at + i) 0 ≡ getD (f (part at k l)) i 0
+  onPart-getD-in i g = sym (getD-part at k (onPart f at k l) i g) ∙ ap (λ (r : List ℕ). getD r i 0) onPart-part
+
+-- two changes of one part, one after the other
+pub onPart-twice : (f g : List ℕ → List ℕ) (k : ℕ) → Keeps f k → Keeps g k → (at : ℕ) (l : List ℕ) → at + k ≤ length l
+    → onPart f at k (onPart g at k l) ≡ onPart (λ r. f (g r)) at k l
+onPart-twice f g k keepf keepg at l h =
+    let fg : List ℕ → List ℕ = λ r. f (g r) in
+    let keep : Keeps fg k = λ r e. keepf (g r) (keepg r e) in
+    let m : List ℕ = onPart g at k l in
+    let hm : at + k ≤ length m = omega (arith, onPart-length g k keepg at l h) in
+    three-parts at k (onPart f at k m) (onPart fg at k l)
+    (onPart-take f k keepf at m hm at (omega arith) ∙ onPart-take g k keepg at l h at (omega arith) ∙ sym (onPart-take fg k keep at l h at (omega arith)))
+    (onPart-part f k keepf at m hm ∙ ap f (onPart-part g k keepg at l h) ∙ sym (onPart-part fg k keep at l h))
+    (onPart-drop f k keepf at m hm (at + k) (omega arith) ∙ onPart-drop g k keepg at l h (at + k) (omega arith) ∙ sym (onPart-drop fg k keep at l h (at + k) (omega arith)))
+
+-- a change seen from c on, where c lies before it
+pub drop-onPart : (f : List ℕ → List ℕ) (c at k : ℕ) (l : List ℕ) → c ≤ at → at ≤ length l → drop c (onPart f at k l) ≡ onPart f (at - c) k (drop c l)
+unfolding onPart
+drop-onPart f c at k l h g =
+    let e : c + (at - c) ≡ at = omega arith in
+    drop-append-le c (take at l) (f (part at k l) ++ drop k (drop at l)) (omega (arith, length-take-le at l g))
+    ∙ rw (drop-take c at l, drop-drop (at - c) c l, e)
+
+-- changes of two parts that lie apart may change places
+pub onPart-swap : (f g : List ℕ → List ℕ) (k m : ℕ) → Keeps f k → Keeps g m → (a b : ℕ) (l : List ℕ) → a + k ≤ b → b + m ≤ length l
+    → onPart f a k (onPart g b m l) ≡ onPart g b m (onPart f a k l)
+onPart-swap f g k m keepf keepg a b l d h =
+    let hf : a + k ≤ length l = omega arith in
+    let x : List ℕ = onPart g b m l in
+    let y : List ℕ = onPart f a k l in
+    let hx : a + k ≤ length x = omega (arith, onPart-length g m keepg b l h) in
+    let hy : b + m ≤ length y = omega (arith, onPart-length f k keepf a l hf) in
+    three-parts a k (onPart f a k x) (onPart g b m y)
+    (onPart-take f k keepf a x hx a (omega arith)
+    ∙ onPart-take g m keepg b l h a (omega arith)
+    ∙ sym (onPart-take g m keepg b y hy a (omega arith) ∙ onPart-take f k keepf a l hf a (omega arith)))
+    (onPart-part f k keepf a x hx
+    ∙ ap f (onPart-before g m keepg b l h a k d)
+    ∙ sym (onPart-before g m keepg b y hy a k d ∙ onPart-part f k keepf a l hf))
+    (onPart-drop f k keepf a x hx (a + k) (omega arith)
+    ∙ drop-onPart g (a + k) b m l d (omega arith)
+    ∙ ap (onPart g (b - (a + k)) m) (sym (onPart-drop f k keepf a l hf (a + k) (omega arith)))
+    ∙ sym (drop-onPart g (a + k) b m y d (omega arith)))
+
+-- a change of a part of a part
+pub onPart-nested : (f : List ℕ → List ℕ) (a k b m : ℕ) (l : List ℕ) → a + k ≤ m → b + m ≤ length l
+    → onPart (onPart f a k) b m l ≡ onPart f (b + a) k l
+unfolding onPart
+onPart-nested f a k b m l h g =
+    let d : List ℕ = drop b l in
+    let r : List ℕ = f (part (b + a) k l) in
+    let before : take a (take m d) ≡ take a d = take-take a m d (omega arith) in
+    let behind : drop k (drop a (take m d)) ++ drop m d ≡ drop k (drop (b + a) l) =
+    ap (λ (x : List ℕ). x ++ drop m d) (drop-drop k a (take m d))
+    ∙ sym (drop-append-le (a + k) (take m d) (drop m d) (omega (arith, length-part b m l g)))
+    ∙ ap (drop (a + k)) (take-append-drop m d)
+    ∙ sym (drop-drop k a d)
+    ∙ ap (drop k) (drop-drop a b l) in
+    rw (before, part-part a k b m l h)
+    (ap (λ (x : List ℕ). take b l ++ x)
+    (append-assoc (take a d) (r ++ drop k (drop a (take m d))) (drop m d)
+    ∙ ap (λ (x : List ℕ). take a d ++ x) (append-assoc r (drop k (drop a (take m d))) (drop m d) ∙ ap (λ (x : List ℕ). r ++ x) behind))
+    ∙ sym (append-assoc (take b l) (take a d) (r ++ drop k (drop (b + a) l)))
+    ∙ ap (λ (x : List ℕ). x ++ (r ++ drop k (drop (b + a) l))) (sym (take-add b a l)))
+
+-- ---- n parts changed, one after the other
+-- a turn of the loop, and its end
+pub parts-step : (f : List ℕ → List ℕ) (k left at : ℕ) (r m : List ℕ) → 0 < left → m ≡ onParts f k left at r
+    → m ≡ onParts f k (left - 1) (at + k) (onPart f at k r)
+unfolding onParts
+parts-step f k zero at r m h e = absurd (omega arith)
+parts-step f k (suc n) at r m h e = let q : suc n - 1 ≡ n = omega arith in rw q e
+
+pub parts-done : (f : List ℕ → List ℕ) (k left at : ℕ) (r m : List ℕ) → left ≤ 0 → m ≡ onParts f k left at r → r ≡ m
+unfolding onParts
+parts-done f k zero at r m h e = sym e
+parts-done f k (suc n) at r m h e = absurd (omega arith)
+
+module _ (f : List ℕ → List ℕ) (k : ℕ) (keep : Keeps f k) where
+  -- the first of n + 1 parts lies within the list, and so do the rest behind it once it is changed
+  head-fits : (n at : ℕ) (l : List ℕ) → at + suc n * k ≤ length l → at + k ≤ length l
+  head-fits n at l h = omega (arith, suc-mul n k)
+
+  rest-fits : (n at : ℕ) (l : List ℕ) → at + suc n * k ≤ length l → at + k + n * k ≤ length (onPart f at k l)
+  rest-fits n at l h = omega (arith, suc-mul n k, onPart-length f k keep at l (head-fits n at l h))
+
+  pub onParts-length : (n at : ℕ) (l : List ℕ) → at + n * k ≤ length l → length (onParts f k n at l) ≡ length l
+  unfolding onParts
+  onParts-length zero at l h = refl
+  onParts-length (suc n) at l h = onParts-length n (at + k) (onPart f at k l) (rest-fits n at l h) ∙ onPart-length f k keep at l (head-fits n at l h)
+
+  -- what lies before them
+  pub onParts-take : (n at b : ℕ) (l : List ℕ) → at + n * k ≤ length l → b ≤ at → take b (onParts f k n at l) ≡ take b l
+  unfolding onParts
+  onParts-take zero at b l h g = refl
+  onParts-take (suc n) at b l h g =
+      onParts-take n (at + k) b (onPart f at k l) (rest-fits n at l h) (omega arith) ∙ onPart-take f k keep at l (head-fits n at l h) b g
+
+  pub onParts-before : (n at b m : ℕ) (l : List ℕ) → at + n * k ≤ length l → b + m ≤ at → part b m (onParts f k n at l) ≡ part b m l
+  onParts-before n at b m l h g = same-before at b m (onParts f k n at l) l (onParts-take n at at l h (omega arith)) g
+
+  pub onParts-getD-before : (n at i : ℕ) (l : List ℕ) → at + n * k ≤ length l → i < at → getD (onParts f k n at l) i 0 ≡ getD l i 0
+  onParts-getD-before n at i l h g = getD-same-before at i (onParts f k n at l) l (onParts-take n at at l h (omega arith)) g
+
+  -- what lies behind them
+  pub onParts-drop : (n at b : ℕ) (l : List ℕ) → at + n * k ≤ length l → at + n * k ≤ b → drop b (onParts f k n at l) ≡ drop b l
+  unfolding onParts
+  onParts-drop zero at b l h g = refl
+  onParts-drop (suc n) at b l h g =
+      onParts-drop n (at + k) b (onPart f at k l) (rest-fits n at l h) (omega (arith, suc-mul n k))
+      ∙ onPart-drop f k keep at l (head-fits n at l h) b (omega (arith, suc-mul n k))
+
+  pub onParts-after : (n at b m : ℕ) (l : List ℕ) → at + n * k ≤ length l → at + n * k ≤ b → part b m (onParts f k n at l) ≡ part b m l
+  onParts-after n at b m l h g = ap (take m) (onParts-drop n at b l h g)
+
+  pub onParts-getD-after : (n at i : ℕ) (l : List ℕ) → at + n * k ≤ length l → at + n * k ≤ i → getD (onParts f k n at l) i 0 ≡ getD l i 0
+  onParts-getD-after n at i l h g = getD-same-after (at + n * k) i (onParts f k n at l) l (onParts-drop n at (at + n * k) l h (omega arith)) g
+
+  -- part number j is f of what it was
+  pub onParts-part : (n at j : ℕ) (l : List ℕ) → at + n * k ≤ length l → j < n → part (at + j * k) k (onParts f k n at l) ≡ f (part (at + j * k) k l)
+  unfolding onParts
+  onParts-part zero at j l h g = absurd (omega arith)
+  onParts-part (suc n) at zero l h g =
+      let z : at + zero * k ≡ at = omega arith in
+      rw z (onParts-before n (at + k) at k (onPart f at k l) (rest-fits n at l h) (omega arith) ∙ onPart-part f k keep at l (head-fits n at l h))
+  onParts-part (suc n) at (suc j) l h g =
+      let z : at + suc j * k ≡ at + k + j * k = omega (arith, suc-mul j k) in
+      rw z (onParts-part n (at + k) j (onPart f at k l) (rest-fits n at l h) (omega arith)
+      ∙ ap f (onPart-after f k keep at l (head-fits n at l h) (at + k + j * k) k (omega arith)))
+
+  -- within part number j
+  pub onParts-within : (n at j b m : ℕ) (l : List ℕ) → at + n * k ≤ length l → j < n → b + m ≤ k
+      → part (at + j * k + b) m (onParts f k n at l) ≡ part b m (f (part (at + j * k) k l))
+  onParts-within n at j b m l h g i = sym (part-part b m (at + j * k) k (onParts f k n at l) i) ∙ ap (part b m) (onParts-part n at j l h g)
+
+  -- a change that leaves each part as it is leaves the whole as it is
+  pub onParts-none : (n at : ℕ) (l : List ℕ) → ((j : ℕ) → j < n → f (part (at + j * k) k l) ≡ part (at + j * k) k l) → onParts f k n at l ≡ l
+  unfolding onParts
+  onParts-none zero at l e = refl
+  onParts-none (suc n) at l e =
+      let z : at + zero * k ≡ at = omega arith in
+      let first-none : onPart f at k l ≡ l = onPart-none f at k l (rw z at (e zero (omega arith))) in
+      rw first-none
+      (onParts-none n (at + k) l
+      (λ j g. let z : at + suc j * k ≡ at + k + j * k = omega (arith, suc-mul j k) in rw z at (e (suc j) (omega arith))))
+
+-- what is done to lists of length k is all that matters
+pub onParts-ext : (f g : List ℕ → List ℕ) (k : ℕ) → Keeps f k → ((r : List ℕ) → length r ≡ k → f r ≡ g r)
+    → (n at : ℕ) (l : List ℕ) → at + n * k ≤ length l → onParts f k n at l ≡ onParts g k n at l
+unfolding onParts
+onParts-ext f g k keep same zero at l h = refl
+onParts-ext f g k keep same (suc n) at l h =
+    onParts-ext f g k keep same n (at + k) (onPart f at k l) (rest-fits f k keep n at l h)
+    ∙ ap (onParts g k n (at + k)) (onPart-ext f g k same at l (head-fits f k keep n at l h))
+
+-- n parts within one part
+pub onParts-nested : (f : List ℕ → List ℕ) (k : ℕ) → Keeps f k → (n a b m : ℕ) (l : List ℕ) → a + n * k ≤ m → b + m ≤ length l
+    → onPart (onParts f k n a) b m l ≡ onParts f k n (b + a) l
+unfolding onParts
+onParts-nested f k keep zero a b m l h g = onPart-none (λ r. r) b m l refl
+onParts-nested f k keep (suc n) a b m l h g =
+    let e : b + a + k ≡ b + (a + k) = omega arith in
+    let q = suc-mul n k in
+    let i : a + k ≤ m = omega (arith, q) in
+    let j : b + a + k ≤ length l = omega arith in
+    let here : onPart (onPart f a k) b m l ≡ onPart f (b + a) k l = onPart-nested f a k b m l i g in
+    let keep-one : Keeps (onPart f a k) m = λ r p. onPart-length f k keep a r (omega (arith, p)) ∙ p in
+    let keep-rest : Keeps (onParts f k n (a + k)) m = λ r p. onParts-length f k keep n (a + k) r (omega (arith, p, q)) ∙ p in
+    rw e
+    (sym (onPart-twice (onParts f k n (a + k)) (onPart f a k) m keep-rest keep-one b l g)
+    ∙ ap (onPart (onParts f k n (a + k)) b m) here
+    ∙ onParts-nested f k keep n (a + k) b m (onPart f (b + a) k l) (omega (arith, q)) (omega (arith, onPart-length f k keep (b + a) l j)))
