@@ -1,3 +1,5 @@
 pub mod Parts
+pub mod First
+pub mod Bytes
 pub mod Digits
 pub mod Bits

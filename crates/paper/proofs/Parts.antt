@@ -27,6 +27,13 @@ mul-step (suc k) z h = let e : suc k - 1 ≡ k = omega arith in rw (e, suc-mul)
 pub mul-within : (j n k : ℕ) → j < n → j * k + k ≤ n * k
 mul-within j n k h = omega (arith, mul-le-mul-right k h, suc-mul j k)
 
+-- where part number 0 starts, and where the next does
+at-first : (at k : ℕ) → at + zero * k ≡ at
+at-first at k = omega arith
+
+at-next : (at j k : ℕ) → at + suc j * k ≡ at + k + j * k
+at-next at j k = omega (arith, suc-mul j k)
+
 -- ---- a part
 drop-take : (a m : ℕ) (l : List ℕ) → drop a (take m l) ≡ take (m - a) (drop a l)
 drop-take zero m l = rw sub-zero
@@ -289,11 +296,9 @@ module _ (f : List ℕ → List ℕ) (k : ℕ) (keep : Keeps f k) where
   unfolding onParts
   onParts-part zero at j l h g = absurd (omega arith)
   onParts-part (suc n) at zero l h g =
-      let z : at + zero * k ≡ at = omega arith in
-      rw z (onParts-before n (at + k) at k (onPart f at k l) (rest-fits n at l h) (omega arith) ∙ onPart-part f k keep at l (head-fits n at l h))
+      rw at-first (onParts-before n (at + k) at k (onPart f at k l) (rest-fits n at l h) (omega arith) ∙ onPart-part f k keep at l (head-fits n at l h))
   onParts-part (suc n) at (suc j) l h g =
-      let z : at + suc j * k ≡ at + k + j * k = omega (arith, suc-mul j k) in
-      rw z (onParts-part n (at + k) j (onPart f at k l) (rest-fits n at l h) (omega arith)
+      rw at-next (onParts-part n (at + k) j (onPart f at k l) (rest-fits n at l h) (omega arith)
       ∙ ap f (onPart-after f k keep at l (head-fits n at l h) (at + k + j * k) k (omega arith)))
 
   -- within part number j
@@ -306,11 +311,8 @@ module _ (f : List ℕ → List ℕ) (k : ℕ) (keep : Keeps f k) where
   unfolding onParts
   onParts-none zero at l e = refl
   onParts-none (suc n) at l e =
-      let z : at + zero * k ≡ at = omega arith in
-      let first-none : onPart f at k l ≡ l = onPart-none f at k l (rw z at (e zero (omega arith))) in
-      rw first-none
-      (onParts-none n (at + k) l
-      (λ j g. let z : at + suc j * k ≡ at + k + j * k = omega (arith, suc-mul j k) in rw z at (e (suc j) (omega arith))))
+      let here : onPart f at k l ≡ l = onPart-none f at k l (rw at-first at (e zero (omega arith))) in
+      rw here (onParts-none n (at + k) l (λ j g. rw at-next at (e (suc j) (omega arith))))
 
 -- what is done to lists of length k is all that matters
 pub onParts-ext : (f g : List ℕ → List ℕ) (k : ℕ) → Keeps f k → ((r : List ℕ) → length r ≡ k → f r ≡ g r)
@@ -338,3 +340,153 @@ onParts-nested f k keep (suc n) a b m l h g =
     (sym (onPart-twice (onParts f k n (a + k)) (onPart f a k) m keep-rest keep-one b l g)
     ∙ ap (onPart (onParts f k n (a + k)) b m) here
     ∙ onParts-nested f k keep n (a + k) b m (onPart f (b + a) k l) (omega (arith, q)) (omega (arith, onPart-length f k keep (b + a) l j)))
+
+-- ---- a test of n parts
+-- the first part and the rest
+all-step : (p : List ℕ → Bool) (k left at : ℕ) (l : List ℕ) → 0 < left → allParts p k left at l ≡ (p (part at k l) && allParts p k (left - 1) (at + k) l)
+unfolding allParts
+all-step p k zero at l h = absurd (omega arith)
+all-step p k (suc n) at l h = let e : suc n - 1 ≡ n = omega arith in rw e
+
+-- a turn of the loop that stops at the first part that fails, one that goes on, and its end
+pub all-stop : (p : List ℕ → Bool) (k left at : ℕ) (l : List ℕ) (b : Bool) → 0 < left → b ≡ allParts p k left at l → p (part at k l) ≡ false → false ≡ b
+all-stop p k left at l b h e f = sym (e ∙ all-step p k left at l h ∙ ap (λ (t : Bool). t && allParts p k (left - 1) (at + k) l) f)
+
+pub all-go : (p : List ℕ → Bool) (k left at : ℕ) (l : List ℕ) (b : Bool) → 0 < left → b ≡ allParts p k left at l → p (part at k l) ≡ true
+    → b ≡ allParts p k (left - 1) (at + k) l
+all-go p k left at l b h e f = e ∙ all-step p k left at l h ∙ ap (λ (t : Bool). t && allParts p k (left - 1) (at + k) l) f
+
+pub all-done : (p : List ℕ → Bool) (k left at : ℕ) (l : List ℕ) (b : Bool) → left ≤ 0 → b ≡ allParts p k left at l → true ≡ b
+unfolding allParts
+all-done p k zero at l b h e = sym e
+all-done p k (suc n) at l b h e = absurd (omega arith)
+
+both-true : (a b : Bool) → (a && b) ≡ true → (a ≡ true) × (b ≡ true)
+both-true true b e = (refl, e)
+both-true false b e = let z : _≡_ {A = ℕ} 0 1 = cc in absurd (omega arith)
+
+-- it holds of all n: it holds of part number j
+pub all-part : (p : List ℕ → Bool) (k n at : ℕ) (l : List ℕ) → allParts p k n at l ≡ true → (j : ℕ) → j < n → p (part (at + j * k) k l) ≡ true
+unfolding allParts
+all-part p k zero at l e j h = absurd (omega arith)
+all-part p k (suc n) at l e zero h = rw at-first (both-true (p (part at k l)) (allParts p k n (at + k) l) e .0)
+all-part p k (suc n) at l e (suc j) h =
+    rw at-next (all-part p k n (at + k) l (both-true (p (part at k l)) (allParts p k n (at + k) l) e .1) j (omega arith))
+
+-- it is the same where it is the same of each part
+pub all-same : (p q : List ℕ → Bool) (k n a b : ℕ) (x y : List ℕ) → ((j : ℕ) → j < n → p (part (a + j * k) k x) ≡ q (part (b + j * k) k y))
+    → allParts p k n a x ≡ allParts q k n b y
+unfolding allParts
+all-same p q k zero a b x y e = refl
+all-same p q k (suc n) a b x y e =
+    let here : p (part a k x) ≡ q (part b k y) = rw (at-first a k, at-first b k) at (e zero (omega arith)) in
+    let rest : allParts p k n (a + k) x ≡ allParts q k n (b + k) y =
+    all-same p q k n (a + k) (b + k) x y (λ j h. rw (at-next a j k, at-next b j k) at (e (suc j) (omega arith))) in
+    rw (here, rest)
+
+-- it holds of each: it holds of all n
+pub all-true : (p : List ℕ → Bool) (k n at : ℕ) (l : List ℕ) → ((j : ℕ) → j < n → p (part (at + j * k) k l) ≡ true) → allParts p k n at l ≡ true
+unfolding allParts
+all-true p k zero at l e = refl
+all-true p k (suc n) at l e =
+    let here : p (part at k l) ≡ true = rw at-first at (e zero (omega arith)) in
+    rw here (all-true p k n (at + k) l (λ j h. rw at-next at (e (suc j) (omega arith))))
+
+-- what lies before the parts, or behind them, does not matter
+pub all-after : (p : List ℕ → Bool) (k n at e : ℕ) (x y : List ℕ) → drop e x ≡ drop e y → e ≤ at → allParts p k n at x ≡ allParts p k n at y
+all-after p k n at e x y q h = all-same p p k n at at x y (λ j g. ap p (same-after e (at + j * k) k x y q (omega arith)))
+
+pub all-before : (p : List ℕ → Bool) (k n at e : ℕ) (x y : List ℕ) → take e x ≡ take e y → at + n * k ≤ e → allParts p k n at x ≡ allParts p k n at y
+all-before p k n at e x y q h = all-same p p k n at at x y (λ j g. ap p (same-before e (at + j * k) k x y q (omega (arith, mul-within j n k g))))
+
+-- a change of each part that the test does not see
+pub all-kept : (p : List ℕ → Bool) (f : List ℕ → List ℕ) (k : ℕ) → Keeps f k → ((r : List ℕ) → length r ≡ k → p (f r) ≡ p r)
+    → (n at : ℕ) (l : List ℕ) → at + n * k ≤ length l → allParts p k n at (onParts f k n at l) ≡ allParts p k n at l
+all-kept p f k keep same n at l h =
+    all-same p p k n at at (onParts f k n at l) l
+    (λ j g. ap p (onParts-part f k keep n at j l h g) ∙ same (part (at + j * k) k l) (length-part (at + j * k) k l (omega (arith, mul-within j n k g))))
+
+-- a test of parts of a part
+pub all-within : (p : List ℕ → Bool) (k n a b m : ℕ) (l : List ℕ) → a + n * k ≤ m → allParts p k n a (part b m l) ≡ allParts p k n (b + a) l
+all-within p k n a b m l h =
+    all-same p p k n a (b + a) (part b m l) l
+    (λ j g. let e : b + (a + j * k) ≡ b + a + j * k = omega arith in ap p (rw e at (part-part (a + j * k) k b m l (omega (arith, mul-within j n k g)))))
+
+-- ---- a sum over n parts
+-- a turn of the loop that adds to a total, and its end
+pub sum-step : (g : List ℕ → ℕ) (k left at : ℕ) (l : List ℕ) (total sum y : ℕ) → 0 < left → total ≡ sum + sumParts g k left at l → y ≡ g (part at k l)
+    → total ≡ sum + y + sumParts g k (left - 1) (at + k) l
+unfolding sumParts
+sum-step g k zero at l total sum y h e q = absurd (omega arith)
+sum-step g k (suc n) at l total sum y h e q = let z : suc n - 1 ≡ n = omega arith in rw (z, q) (omega arith)
+
+pub sum-done : (g : List ℕ → ℕ) (k left at : ℕ) (l : List ℕ) (total sum : ℕ) → left ≤ 0 → total ≡ sum + sumParts g k left at l → sum ≡ total
+unfolding sumParts
+sum-done g k zero at l total sum h e = omega arith
+sum-done g k (suc n) at l total sum h e = absurd (omega arith)
+
+-- it is the same where it is the same of each part
+pub sum-same : (f g : List ℕ → ℕ) (k n a b : ℕ) (x y : List ℕ) → ((j : ℕ) → j < n → f (part (a + j * k) k x) ≡ g (part (b + j * k) k y))
+    → sumParts f k n a x ≡ sumParts g k n b y
+unfolding sumParts
+sum-same f g k zero a b x y e = refl
+sum-same f g k (suc n) a b x y e =
+    let here : f (part a k x) ≡ g (part b k y) = rw (at-first a k, at-first b k) at (e zero (omega arith)) in
+    let rest : sumParts f k n (a + k) x ≡ sumParts g k n (b + k) y =
+    sum-same f g k n (a + k) (b + k) x y (λ j h. rw (at-next a j k, at-next b j k) at (e (suc j) (omega arith))) in
+    rw (here, rest)
+
+-- what lies before the parts, or behind them, does not matter
+pub sum-after : (g : List ℕ → ℕ) (k n at e : ℕ) (x y : List ℕ) → drop e x ≡ drop e y → e ≤ at → sumParts g k n at x ≡ sumParts g k n at y
+sum-after g k n at e x y q h = sum-same g g k n at at x y (λ j i. ap g (same-after e (at + j * k) k x y q (omega arith)))
+
+pub sum-before : (g : List ℕ → ℕ) (k n at e : ℕ) (x y : List ℕ) → take e x ≡ take e y → at + n * k ≤ e → sumParts g k n at x ≡ sumParts g k n at y
+sum-before g k n at e x y q h = sum-same g g k n at at x y (λ j i. ap g (same-before e (at + j * k) k x y q (omega (arith, mul-within j n k i))))
+
+-- a sum over parts of a part
+pub sum-within : (g : List ℕ → ℕ) (k n a b m : ℕ) (l : List ℕ) → a + n * k ≤ m → sumParts g k n a (part b m l) ≡ sumParts g k n (b + a) l
+sum-within g k n a b m l h =
+    sum-same g g k n a (b + a) (part b m l) l
+    (λ j i. let e : b + (a + j * k) ≡ b + a + j * k = omega arith in ap g (rw e at (part-part (a + j * k) k b m l (omega (arith, mul-within j n k i)))))
+
+-- no part gives more than b: the sum is at most n * b
+pub sum-most : (g : List ℕ → ℕ) (k n at b : ℕ) (l : List ℕ) → ((r : List ℕ) → g r ≤ b) → sumParts g k n at l ≤ n * b
+unfolding sumParts
+sum-most g k zero at b l h = omega arith
+sum-most g k (suc n) at b l h = omega (arith, h (part at k l), sum-most g k n (at + k) b l h, suc-mul n b)
+
+-- ---- a copy of w bytes within one list, byte by byte, forward: it may lie before what it copies, or wholly behind it
+-- what the copy has not reached, or has passed, reads as it did
+copy-source : (l s : List ℕ) (from to w i : ℕ) → (to ≤ from) ⊎ (from + w ≤ to) → from + w ≤ length l → to + w ≤ length l → i < w → i ≤ length s
+    → getD (paste l to s i) (from + i) 0 ≡ getD l (from + i) 0
+copy-source l s from to w i d a b h k =
+    let hd : to ≤ length l = omega arith in
+    let p = length-paste-head l to s i hd k in
+    ⊎-elim
+    (λ (q : to ≤ from).
+    let e : from + i ≡ length (take to l ++ take i s) + (from - to) = omega (arith, p) in
+    let e2 : to + i + (from - to) ≡ from + i = omega arith in
+    ap (λ (j : ℕ). getD (paste l to s i) j 0) e
+    ∙ getD-append-add (take to l ++ take i s) (drop (to + i) l) (from - to) 0
+    ∙ getD-drop (to + i) l (from - to) 0
+    ∙ ap (λ (j : ℕ). getD l j 0) e2)
+    (λ (q : from + w ≤ to).
+    let lt1 : from + i < length (take to l ++ take i s) = omega (arith, p) in
+    let lt2 : from + i < length (take to l) = omega (arith, length-take-le to l hd) in
+    List·getD-append (take to l ++ take i s) (drop (to + i) l) 0 (from + i) lt1
+    ∙ List·getD-append (take to l) (take i s) 0 (from + i) lt2
+    ∙ getD-take to l (from + i) 0 (omega arith))
+    d
+
+-- the loop's invariant is r ≡ paste l to (drop from l) i: a turn, and its end (its start is `paste-zero`)
+pub copy-turn : (l r : List ℕ) (from to w i : ℕ) → (to ≤ from) ⊎ (from + w ≤ to) → from + w ≤ length l → to + w ≤ length l → i < w
+    → r ≡ paste l to (drop from l) i → set r (to + i) (getD r (from + i) 0) ≡ paste l to (drop from l) (i + 1)
+copy-turn l r from to w i d a b h q =
+    let hs : i < length (drop from l) = omega (arith, length-drop from l) in
+    let hi : i ≤ length (drop from l) = omega arith in
+    let hd : to + i < length l = omega arith in
+    rw (q, copy-source l (drop from l) from to w i d a b h hi, ← getD-drop from l i 0, add-one) (paste-suc l to (drop from l) i 0 hd hs)
+
+pub copy-done : (l : List ℕ) (from to k : ℕ) → paste l to (drop from l) k ≡ onPart (λ r. part from k l) to k l
+unfolding onPart
+copy-done l from to k = rw drop-drop (append-assoc (take to l) (part from k l) (drop (to + k) l))
