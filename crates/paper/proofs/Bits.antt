@@ -12,11 +12,9 @@ use lib.Dec.{eqb, lit<}
 use lib.ListN.{length, getD, set, length-set}
 use lib.Seq.{set-getD, set-out, getD-set-same, getD-set-other, ext-getD}
 use Rattle.paper.specs.Bits.{weightOf, bitAt, putBit, moved, changed}
+use Rattle.paper.specs.Parts.{Bytes}
+use Rattle.paper.proofs.Bytes.{bytes-set}
 use Rattle.paper.proofs.Digits.{low-digit, same-digits, spliced, spliced-above, spliced-inside, spliced-below, spliced-lt, one-spliced}
-
--- all of s are bytes
-abbrev pub Bytes : List ℕ → Type 0
-Bytes s = (k : ℕ) → getD s k 0 < 256
 
 -- ---- one bit
 pub bit-small : (s : List ℕ) (i : ℕ) → bitAt s i < 2
@@ -58,14 +56,6 @@ put-nothing s i v e =
 pub length-put : (s : List ℕ) (i v : ℕ) → length (putBit s i v) ≡ length s
 unfolding putBit
 length-put s i v = simp length-set
-
-pub bytes-set : (s : List ℕ) (i v : ℕ) → Bytes s → v < 256 → Bytes (set s i v)
-bytes-set s i v b h k = go (ℕ-discrete k i) (decLt i (length s))
-  where
-    go : Dec (k ≡ i) → Dec (i < length s) → getD (set s i v) k 0 < 256
-    go (yes e) (yes l) = rw (e, getD-set-same s i v 0 l) h
-    go (yes e) (no l) = rw (set-out s i v (omega arith)) (b k)
-    go (no d) l = rw (getD-set-other s i k v 0 d) (b k)
 
 pub bytes-put : (s : List ℕ) (i v : ℕ) → v < 2 → Bytes s → Bytes (putBit s i v)
 bytes-put s i v l b =
