@@ -1,14 +1,12 @@
 -- The laws of lists of bytes: what is put together of bytes, cut out of bytes or written by bytes is bytes. Assumes nothing.
 use native.Mathlib.Omega.{arith}
-use native.Mathlib.Numerals.{add-one}
 use native.Mathlib.Decide.{decLt, ℕ-discrete}
-use mathlib.Core.Path.{_≡_, refl, sym, ap, _∙_, subst}
+use mathlib.Core.Path.{_≡_}
 use mathlib.Core.List.{List, [], _∷_, _++_}
-use Prim.Native.Nat.{ℕ, zero, suc, _+_, _*_, _≤_, _<_}
+use Prim.Native.Nat.{ℕ, zero, suc, _+_, _<_}
 use lib.ListN.{length, take, drop, getD, set, replicate}
 use lib.Seq.{getD-drop, set-out, getD-set-same, getD-set-other}
 use Rattle.paper.specs.Parts.{Bytes, part, onPart, onParts}
-use Rattle.paper.proofs.Parts.{Keeps}
 
 pub bytes-nil : Bytes []
 bytes-nil k = omega arith

@@ -1,18 +1,17 @@
 -- The laws of parts: what a part is after a change of it, before it or behind it; a loop over parts, one step and its end; the
 -- first place of a search; a copy within one list; lists of bytes. Assumes nothing.
 use native.Mathlib.Omega.{arith}
-use native.Mathlib.Nat.{suc-mul, not-suc-le-zero, le-of-suc-le-suc, sub-zero, zero-sub, suc-sub-suc, mul-le-mul-right, add-sub-cancel-left}
+use native.Mathlib.Nat.{suc-mul, sub-zero, zero-sub, suc-sub-suc, mul-le-mul-right, add-sub-cancel-left}
 use native.Mathlib.Numerals.{add-one}
-use native.Mathlib.Decide.{decLt, ℕ-discrete}
 use mathlib.Core.Path.{_≡_, refl, sym, ap, _∙_}
 use mathlib.Core.List.{List, [], _∷_, _++_, append-assoc}
-use mathlib.Core.Bool.{Bool, true, false, cond, _&&_}
+use mathlib.Core.Bool.{Bool, true, false, _&&_}
 use mathlib.Core.Logic.{_⊎_, ⊎-elim}
 use Prim.Native.Nat.{ℕ, zero, suc, _+_, _*_, _-_, _≤_, _<_}
-use lib.ListN.{length, take, drop, getD, set, replicate, length-append, length-take, length-drop, List·getD-append, take-append-drop}
-use lib.Seq.{take-nil, take-take, drop-drop, take-at, drop-at, take-append-le, drop-append-le, take-add, length-take-le, getD-take, getD-drop, getD-append-add, paste, paste-suc, length-paste-head}
+use lib.ListN.{length, take, drop, getD, set, length-take, length-drop, List·getD-append, take-append-drop}
+use lib.Seq.{take-nil, take-take, drop-drop, take-at, drop-at, drop-append-le, take-add, length-take-le, getD-take, getD-drop, getD-append-add, paste, paste-suc, length-paste-head}
 use borrow.Rule.Slice.PartMut.{same-len-mid, take-put, drop-put, put-same, set-mid-at}
-use Rattle.paper.specs.Parts.{Bytes, part, onPart, onParts, allParts, sumParts, firstFrom, first}
+use Rattle.paper.specs.Parts.{part, onPart, onParts, allParts, sumParts}
 
 -- f keeps the length k
 abbrev pub Keeps : (List ℕ → List ℕ) → ℕ → Type 0
