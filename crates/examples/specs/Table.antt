@@ -1,0 +1,148 @@
+-- "Marked and unmarked examples", those marked *, and "Ways to get it nearly right", as rows of one table.
+use Prim.Native.Nat.{ℕ, _+_}
+use mathlib.Core.Bool.{Bool, true, false}
+use mathlib.Core.List.{List, [], _∷_, _++_}
+use lib.ListN.{replicate, take}
+use lib.IntN.{ℤ, pos, negsuc}
+use Rattle.paper.specs.Parts.{onPart}
+use Rattle.paper.specs.Time.{addSeconds, subframeOf, difference}
+use Rattle.paper.specs.Record.{Family, CED, Timing, size, satellite, count, agesOf, dataOf, withCount}
+use Rattle.paper.specs.Room.{rowAt, recordAt}
+use Rattle.paper.specs.Call.{Call, freshCall, feedCall, tagCall, candidateCall, askCall, resetCall, roomAfter, answerTo, partTo}
+use Rattle.examples.specs.Row.{Row, row, flat, flatDifference, lastAnswer, after, at, satellites, word}
+
+-- a word at week 1177
+abbrev feed : ℕ → ℕ → ℕ → ℕ → Call
+feed sat type t band = feedCall (word type 170) sat 1177 t band
+
+-- the data of a CED record after its five words of bytes 170
+unfoldable pub cedData : List ℕ → List ℕ
+cedData room = dataOf CED (at CED 0 0 room)
+
+-- D 2, N 1: all five words of E01 at T = 175740
+unfoldable pub five : List Call
+five = feed 1 5 175748 0 ∷ feed 1 4 175746 0 ∷ feed 1 3 175744 0 ∷ feed 1 2 175742 0 ∷ feed 1 1 175740 0 ∷ freshCall 2 1 ∷ []
+
+-- a CED tag of E01 for the data that stands in row 0, at a MACK time, with a COP and a length
+unfoldable pub tag : ℕ → ℕ → ℕ → List Call → Call
+tag t cop l before = tagCall 1 0 cop l 2 1177 t (cedData (after before)) true
+
+-- the tag at T + 30 s with COP 1
+unfoldable pub accepted : List Call
+accepted = tag 175770 1 40 five ∷ five
+
+-- then its type 0 word at T + 30 s
+unfoldable pub later : List Call
+later = feed 1 0 175770 0 ∷ five
+
+-- and the tag at T + 60 s with COP 2
+unfoldable pub laterAccepted : List Call
+laterAccepted = tag 175800 2 40 later ∷ later
+
+-- "Times"
+unfoldable pub times : List Row
+times =
+    -- (1177, 175767) + 2 s = (1177, 175769); its subframe starts at 175740
+    row (flat (addSeconds 1177 175767 (pos 2))) (0 ∷ 1177 ∷ 175769 ∷ [])
+    ∷ row (flat (subframeOf 1177 175769)) (0 ∷ 1177 ∷ 175740 ∷ [])
+    -- (0, 0) − 30 s: 7. (1, 0) − 30 s = (0, 604770)
+    ∷ row (flat (addSeconds 0 0 (negsuc 29))) (7 ∷ [])
+    ∷ row (flat (addSeconds 1 0 (negsuc 29))) (0 ∷ 0 ∷ 604770 ∷ [])
+    -- (65535, 604799) + 1 s: 7
+    ∷ row (flat (addSeconds 65535 604799 (pos 1))) (7 ∷ [])
+    -- (5, 0) − 604799 s = (4, 1); − 604800 s: 7
+    ∷ row (flat (addSeconds 5 0 (negsuc 604798))) (0 ∷ 4 ∷ 1 ∷ [])
+    ∷ row (flat (addSeconds 5 0 (negsuc 604799))) (7 ∷ [])
+    -- (1, 0) against (0, 604799): 1 subframe, though one second passed
+    ∷ row (flatDifference (difference 1 0 0 604799)) (0 ∷ 1 ∷ [])
+    ∷ []
+
+-- "Slots"
+unfoldable pub places : List Row
+places =
+    -- N 3, fresh: E11 goes to slot 2, E12 then to slot 1
+    row (satellites CED 0 3 (after (feed 11 1 175740 0 ∷ freshCall 1 3 ∷ []))) (0 ∷ 0 ∷ 11 ∷ [])
+    ∷ row (satellites CED 0 3 (after (feed 12 1 175740 0 ∷ feed 11 1 175740 0 ∷ freshCall 1 3 ∷ []))) (0 ∷ 12 ∷ 11 ∷ [])
+    ∷ row (satellites Timing 0 3 (after (feed 12 1 175740 0 ∷ feed 11 1 175740 0 ∷ freshCall 1 3 ∷ []))) (0 ∷ 12 ∷ 11 ∷ [])
+    -- N 2, one type 1 word each from E01, E02, E03: E03 takes slot 1, E01 is gone
+    ∷ row
+    (satellites CED 0 2 (after (feed 3 1 175740 0 ∷ feed 2 1 175740 0 ∷ feed 1 1 175740 0 ∷ freshCall 1 2 ∷ [])))
+    (2 ∷ 3 ∷ [])
+    -- Type 6 on E5B: satellite taken, ages stay 255
+    ∷ row (satellites Timing 0 1 (after (feed 1 6 175740 1 ∷ freshCall 1 1 ∷ []))) (1 ∷ [])
+    ∷ row (agesOf Timing (at Timing 0 0 (after (feed 1 6 175740 1 ∷ freshCall 1 1 ∷ [])))) (255 ∷ 255 ∷ [])
+    ∷ []
+
+-- "Tags"
+unfoldable pub tags : List Row
+tags =
+    -- D 2, one satellite throughout: all five words at T, CED tag at T + 30 s, COP 1: accepted
+    row (lastAnswer (tag 175770 1 40 five) five) (0 ∷ 1 ∷ [])
+    -- its type 0 word at T + 30 s, tag at T + 60 s: COP 1 gives 10, COP 2 is accepted
+    ∷ row (lastAnswer (tag 175800 1 40 later) later) (10 ∷ [])
+    -- then rows T and T + 30 s both take it: total 2
+    ∷ row (lastAnswer (tag 175800 2 40 later) later) (0 ∷ 2 ∷ [])
+    ∷ row (agesOf CED (at CED 1 0 (after later))) (1 ∷ 1 ∷ 1 ∷ 1 ∷ 1 ∷ [])
+    -- one 20-bit tag: 12. Two: 40
+    ∷ row (lastAnswer (askCall CED 1) (tag 175770 1 20 five ∷ five)) (12 ∷ [])
+    ∷ row
+    (lastAnswer (askCall CED 1) (tag 175770 1 20 five ∷ tag 175770 1 20 five ∷ five))
+    (0 ∷ 40 ∷ 1177 ∷ 175740 ∷ [])
+    -- 65,520 + 40 gives 65,535, and the record counts in the total
+    ∷ row
+    (count
+    (at CED 0 0
+    (roomAfter (tag 175770 1 40 five) (onPart (withCount 65520) (rowAt 1 0 + recordAt CED 0) (size CED) (after five))))
+    ∷ [])
+    (65535 ∷ [])
+    ∷ row
+    (flat
+    (answerTo (tag 175770 1 40 five) (onPart (withCount 65520) (rowAt 1 0 + recordAt CED 0) (size CED) (after five))))
+    (0 ∷ 1 ∷ [])
+    ∷ []
+
+-- the timing data of E01 as zeros, with its words 6 and 10 first at 60 s, then, earlier, at 30 s
+unfoldable pub backward : List Call
+backward =
+    feedCall (word 10 0) 1 1177 30 0
+    ∷ feedCall (word 6 0) 1 1177 30 0
+    ∷ feedCall (word 10 0) 1 1177 60 0
+    ∷ feedCall (word 6 0) 1 1177 60 0
+    ∷ freshCall 2 1
+    ∷ []
+
+-- "Ways to get it nearly right": at each input the near miss would give something else
+unfoldable pub nearMisses : List Row
+nearMisses =
+    -- clearing data when a satellite replaces another: E02 takes E01's slot, and its data stays
+    row
+    (take 3 (dataOf CED (at CED 0 0 (after (feed 2 0 175740 0 ∷ feed 1 1 175740 0 ∷ freshCall 1 1 ∷ [])))))
+    (42 ∷ 170 ∷ 170 ∷ [])
+    ∷ row
+    (agesOf CED (at CED 0 0 (after (feed 2 0 175740 0 ∷ feed 1 1 175740 0 ∷ freshCall 1 1 ∷ []))))
+    (255 ∷ 255 ∷ 255 ∷ 255 ∷ 255 ∷ [])
+    -- taking the first of equal keys: E03 would take slot 0
+    ∷ row
+    (satellites Timing 0 2 (after (feed 3 1 175740 0 ∷ feed 2 1 175740 0 ∷ feed 1 1 175740 0 ∷ freshCall 1 2 ∷ [])))
+    (2 ∷ 3 ∷ [])
+    -- storing types 6 and 10 from E5B
+    ∷ row
+    (dataOf Timing (at Timing 0 0 (after (feed 1 10 175740 1 ∷ feed 1 6 175740 1 ∷ freshCall 1 1 ∷ []))))
+    (replicate 18 0)
+    -- ignoring types 0 and 63 wholly, though they take slots
+    ∷ row
+    (satellites CED 0 2 (after (feed 6 63 175740 1 ∷ feed 5 0 175740 0 ∷ freshCall 1 2 ∷ [])))
+    (6 ∷ 5 ∷ [])
+    -- adding only to the candidate: the row copied from has the count too
+    ∷ row
+    (count (at CED 0 0 (after laterAccepted)) ∷ count (at CED 1 0 (after laterAccepted)) ∷ [])
+    (40 ∷ 40 ∷ [])
+    -- answering the greatest subframe in place of ring order: 30 s is current, 60 s is greater
+    ∷ row
+    (lastAnswer (askCall Timing 1) (tagCall 1 4 1 40 2 1177 60 (replicate 18 0) true ∷ backward))
+    (0 ∷ 40 ∷ 1177 ∷ 30 ∷ [])
+    ∷ []
+
+-- the table
+unfoldable pub table : List Row
+table = times ++ (places ++ (tags ++ nearMisses))
