@@ -6,7 +6,7 @@ use mathlib.Core.Path.{_≡_, refl, sym, ap, _∙_, subst}
 use Prim.Native.Nat.{ℕ, zero, suc, _+_, _-_, _*_, _/_, _%_, _^_, _<_, _≤_}
 use native.Mathlib.Omega.{arith}
 use native.Mathlib.Decide.{decLt, ℕ-discrete}
-use native.Mathlib.Nat.{add-zero, mod-lt}
+use native.Mathlib.Nat.{add-zero, add-suc, add-assoc, mod-lt}
 use borrow.Author.Tests.{eqb-true, eq-eqb}
 use lib.Dec.{eqb, lit<}
 use lib.ListN.{length, getD, set, length-set}
@@ -136,6 +136,31 @@ module _ (d : List ℕ) (to : ℕ) (w : List ℕ) (from : ℕ) where
 
   pub not-changed : (n : ℕ) → to + n ≤ 8 * length d → moved d to w from n ≡ d → changed d to w from n ≡ false
   not-changed n h e = all-same n (λ k l. sym (ap (λ (s : List ℕ). bitAt s (to + k)) e) ∙ moved-inside n k h l)
+
+  -- n + m bits are n bits, and then m
+  pub moved-add : (n m : ℕ) → moved d to w from (n + m) ≡ moved (moved d to w from n) (to + n) w (from + n) m
+  unfolding moved
+  moved-add n zero = rw add-zero
+  moved-add n (suc m) = rw (add-suc n m, moved-add n m, add-assoc to n m, add-assoc from n m)
+
+  either-later : (e b c : Bool) → cond e (cond b true c) true ≡ cond (cond e b true) true c
+  either-later true b c = refl
+  either-later false b c = refl
+
+  pub changed-add : (n m : ℕ)
+      → changed d to w from (n + m) ≡ cond (changed (moved d to w from n) (to + n) w (from + n) m) true (changed d to w from n)
+  unfolding changed
+  changed-add n zero = rw add-zero
+  changed-add n (suc m) =
+      rw (add-suc n m, changed-add n m, add-assoc to n m, add-assoc from n m, moved-after n (to + (n + m)) (omega arith))
+      (either-later (eqb (bitAt d (to + (n + m))) (bitAt w (from + (n + m))))
+      (changed (moved d to w from n) (to + n) w (from + n) m) (changed d to w from n))
+
+  -- m bits moved after n bits: the list, and whether anything changed since the start
+  pub move-on : (n m : ℕ) (l l′ : List ℕ) (hit hit′ : Bool) → l ≡ moved d to w from n → hit ≡ changed d to w from n
+      → l′ ≡ moved l (to + n) w (from + n) m → hit′ ≡ cond (changed l (to + n) w (from + n) m) true hit
+      → (l′ ≡ moved d to w from (n + m)) × (hit′ ≡ changed d to w from (n + m))
+  move-on n m l l′ hit hit′ e f e′ f′ = (e′ ∙ rw (e, moved-add), f′ ∙ rw (e, f, changed-add))
 
   -- the three bits past a record's last word stay as they are
   pub last-kept : (n : ℕ) → 1 ≤ length d → to + n ≤ 8 * length d - 3

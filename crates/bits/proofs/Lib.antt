@@ -1,0 +1,3 @@
+-- What the proofs of several functions need, and what is proved over the contracts.
+pub mod Shifts
+pub mod OneByte

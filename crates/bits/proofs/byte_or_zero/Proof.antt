@@ -1,0 +1,22 @@
+-- `byte_or_zero` is right: past the end a list reads as 0.
+use native.Mathlib.Omega.{arith}
+use mathlib.Core.Path.{sym}
+use lib.ListN.{List·getD-eq-default}
+use borrow.Author.Needs.{needs}
+use Rattle.bits.proofs.byte_or_zero.Statement.{statement}
+use Rattle.bits.proofs.byte_or_zero.Tie as tie
+
+shared-slice-read-wide : tie.Need-shared-slice-read-wide
+shared-slice-read-wide c = search needs
+
+wide-requires : tie.Need-wide-requires
+wide-requires c κs = search needs
+
+returns : tie.Need-returns
+returns c = search needs
+
+returns-2 : tie.Need-returns-2
+returns-2 c = (sym (List·getD-eq-default (c .before .before .args .w .now) 0 (c .if1 .left)), omega arith)
+
+pub byte-or-zero-spec : {M : Type 1} → statement M
+byte-or-zero-spec = tie.close (tie.spec shared-slice-read-wide wide-requires returns returns-2)

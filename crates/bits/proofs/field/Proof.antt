@@ -1,0 +1,63 @@
+-- `field` is right: two bytes side by side hold the bits, and the shift and the remainder cut them out.
+use native.Mathlib.Omega.{arith}
+use Rattle.bits.proofs.Shifts.{one-shl, one-shl-pos}
+use borrow.Author.Needs.{needs}
+use Rattle.bits.proofs.field.Statement.{statement}
+use Rattle.bits.proofs.field.Tie as tie
+
+byte-or-zero-requires : tie.Need-byte-or-zero-requires
+byte-or-zero-requires c κs = search needs
+
+add-byte-or-zero : tie.Need-add-byte-or-zero
+add-byte-or-zero c = search needs
+
+byte-or-zero-requires-2 : tie.Need-byte-or-zero-requires-2
+byte-or-zero-requires-2 c κs = search needs
+
+mul-result : tie.Need-mul-result
+mul-result c = search needs
+
+add-result : tie.Need-add-result
+add-result c = search needs
+
+add-result-2 : tie.Need-add-result-2
+add-result-2 c = search needs
+
+sub-result : tie.Need-sub-result
+sub-result c = search needs
+
+cast-result : tie.Need-cast-result
+cast-result c = search needs
+
+shr-result : tie.Need-shr-result
+shr-result c = search needs
+
+cast-result-2 : tie.Need-cast-result-2
+cast-result-2 c = search needs
+
+shl-result : tie.Need-shl-result
+shl-result c = search needs
+
+rem-result : tie.Need-rem-result
+rem-result c = one-shl-pos (c .before .before .before .args .k) (omega arith)
+
+returns : tie.Need-returns
+returns c = rw (one-shl (c .before .before .before .args .k) (omega arith), c .before .byte-or-zero .ensures .0, c .byte-or-zero2 .ensures .0)
+
+pub field-spec : {M : Type 1} → statement M
+field-spec =
+    tie.close
+    (tie.spec
+    byte-or-zero-requires
+    add-byte-or-zero
+    byte-or-zero-requires-2
+    mul-result
+    add-result
+    add-result-2
+    sub-result
+    cast-result
+    shr-result
+    cast-result-2
+    shl-result
+    rem-result
+    returns)

@@ -1,0 +1,2 @@
+-- What the inner functions of the bit move answer.
+pub mod Field
