@@ -12,6 +12,11 @@ pub data Family : Type 0 where
   CED : Family
   Timing : Family
 
+-- the family, from whether it is the timing one
+abbrev pub familyIf : Bool → Family
+familyIf true = Timing
+familyIf false = CED
+
 -- "549 bits", "141 bits"
 abbrev pub recordBits : Family → ℕ
 recordBits CED = 549

@@ -7,7 +7,7 @@ use lib.Dec.{leb, ltb, eqb}
 use lib.IntN.{negsuc}
 use Rattle.paper.specs.Number.{Answer, values}
 use Rattle.paper.specs.Parts.{first}
-use Rattle.paper.specs.Record.{Family, CED, Timing, dataBytes, satellite, count, agesOf, dataOf, sameBits, withCount, older, greatest}
+use Rattle.paper.specs.Record.{Family, familyIf, dataBytes, satellite, count, agesOf, dataOf, sameBits, withCount, older, greatest}
 use Rattle.paper.specs.Room.{depth, slots, rowOf, marked, isAt, recordOf, everyRecord, howManyIn}
 use Rattle.paper.specs.Time.{sumOf}
 
@@ -17,7 +17,7 @@ kindKnown kind = eqb kind 0 || eqb kind 4 || eqb kind 12
 
 -- the tag's family
 unfoldable pub familyOf : ℕ → Family
-familyOf kind = cond (eqb kind 4) Timing CED
+familyOf kind = familyIf (eqb kind 4)
 
 -- "COP 0 to 15"
 abbrev pub copAllowed : ℕ → Bool
