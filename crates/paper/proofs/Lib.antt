@@ -4,3 +4,4 @@ pub mod Bytes
 pub mod Big
 pub mod Digits
 pub mod Bits
+pub mod Views
