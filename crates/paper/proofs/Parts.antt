@@ -1,5 +1,5 @@
--- The laws of parts: what a part is after a change of it, before it or behind it; a loop over parts, one step and its end; the
--- first place of a search; a copy within one list; lists of bytes. Assumes nothing.
+-- The laws of parts: what a part is after a change of it, before it or behind it; a loop over parts, one turn and its end; tests and
+-- sums over parts; a copy within one list. Assumes nothing.
 use native.Mathlib.Omega.{arith}
 use native.Mathlib.Nat.{suc-mul, sub-zero, zero-sub, suc-sub-suc, mul-le-mul-right, add-sub-cancel-left}
 use native.Mathlib.Numerals.{add-one}

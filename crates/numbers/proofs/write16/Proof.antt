@@ -1,0 +1,34 @@
+-- `numbers::write16` meets its contract: the two stores are `put16` by its definition.
+use native.Mathlib.Omega.{arith}
+use mathlib.Core.Path.{refl}
+use lib.ListN.{length-set}
+use Rattle.paper.specs.Big.{put16}
+use borrow.Author.Needs.{needs}
+use Rattle.numbers.proofs.write16.Statement.{statement}
+use Rattle.numbers.proofs.write16.Tie as tie
+
+cast-s : tie.Need-cast-s
+cast-s c = search needs
+
+slice-write-s : tie.Need-slice-write-s
+slice-write-s c = search needs
+
+cast-s-2 : tie.Need-cast-s-2
+cast-s-2 c = search needs
+
+add-s : tie.Need-add-s
+add-s c = search needs
+
+slice-write-s-2 : tie.Need-slice-write-s-2
+slice-write-s-2 c = simp length-set (omega arith)
+
+same-length : tie.Need-same-length
+same-length c = search needs
+
+returns : tie.Need-returns
+unfolding put16
+returns c = refl
+
+pub write16-spec : {M : Type 1} → statement M
+write16-spec =
+    tie.close (tie.spec cast-s slice-write-s cast-s-2 add-s slice-write-s-2 same-length returns)
