@@ -5,3 +5,5 @@ pub mod Big
 pub mod Digits
 pub mod Bits
 pub mod Views
+pub mod Lengths
+pub mod WordViews
