@@ -7,3 +7,5 @@ pub mod Bits
 pub mod Views
 pub mod Lengths
 pub mod WordViews
+pub mod CallViews
+pub mod StoreFacts

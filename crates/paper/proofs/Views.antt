@@ -217,3 +217,26 @@ module _ (f : Family) (g : List ℕ → List ℕ) (keep : Keeps g (size f)) wher
     unfolding everyRecord
     everyRecord-past b h =
         onParts-drop (eachRecord f (slots room) g) (rowSize (slots room)) (keeps-eachRecord (slots room)) (depth room) 8 b room fits h
+
+  -- the same of a room with the facts of a store, record by record
+  module _ (room : List ℕ) (F : Facts room) where
+    pub everyRecord-facts : Facts (everyRecord f g room)
+    everyRecord-facts =
+        facts-same room (everyRecord f g room) F (everyRecord-length room (F .fits))
+        (everyRecord-header room (F .fits) 0 (omega arith))
+        (everyRecord-header room (F .fits) 1 (omega arith))
+        (rw (everyRecord-header room (F .fits) 2 (omega arith)) (F .inRing))
+
+    module _ (r : ℕ) (h : r < depth room) where
+      pub everyRecord-head : (k : ℕ) → k < 8 → getD (rowOf r (everyRecord f g room)) k 0 ≡ getD (rowOf r room) k 0
+      everyRecord-head k b =
+          ap (λ (row : List ℕ). getD row k 0) (everyRecord-row room (F .fits) r h)
+          ∙ eachRecord-head (slots room) (rowOf r room) (length-rowOf room F r h) k b
+
+      pub everyRecord-here : (i : ℕ) → i < slots room → recordOf f i (rowOf r (everyRecord f g room)) ≡ g (recordOf f i (rowOf r room))
+      everyRecord-here i b =
+          ap (recordOf f i) (everyRecord-row room (F .fits) r h) ∙ eachRecord-here (slots room) (rowOf r room) (length-rowOf room F r h) i b
+
+      pub everyRecord-other : (i : ℕ) → i < slots room → recordOf (other f) i (rowOf r (everyRecord f g room)) ≡ recordOf (other f) i (rowOf r room)
+      everyRecord-other i b =
+          ap (recordOf (other f) i) (everyRecord-row room (F .fits) r h) ∙ eachRecord-other (slots room) (rowOf r room) (length-rowOf room F r h) i b
