@@ -9,3 +9,4 @@ pub mod Lengths
 pub mod WordViews
 pub mod CallViews
 pub mod StoreFacts
+pub mod RecordViews
