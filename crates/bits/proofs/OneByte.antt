@@ -124,3 +124,32 @@ module _ (d : List ℕ) (to : ℕ) (w : List ℕ) (from k : ℕ) (one : 1 ≤ k)
   pub one-turned : (y : ℕ) (hit : Bool) → y ≡ newByte d to w from k → (y ≡ getD d (to / 8) 0 → ⊥)
       → (set d (to / 8) y ≡ moved d to w from k) × (true ≡ cond (changed d to w from k) true hit)
   one-turned y hit e f = (rw (e, one-byte), rw (one-changed, ne-eqb _ _ (λ g. f (e ∙ g))))
+
+-- ---- a whole byte
+module _ (d : List ℕ) (i : ℕ) (w : List ℕ) (from : ℕ) (here : i < length d) (bytes : Bytes d) (bytes-w : Bytes w) where
+  at-i : 8 * i / 8 ≡ i
+  at-i = omega arith
+
+  aligned : 8 * i % 8 ≡ 0
+  aligned = omega arith
+
+  whole : newByte d (8 * i) w from 8 ≡ fieldOf w from 8
+  whole = rw (at-i, aligned) (omega (arith, bytes i))
+
+  pub whole-kept : (y : ℕ) (hit : Bool) → y ≡ fieldOf w from 8 → y ≡ getD d i 0
+      → (set d i y ≡ moved d (8 * i) w from 8) × (hit ≡ cond (changed d (8 * i) w from 8) true hit)
+  whole-kept y hit e f =
+      rw at-i at (one-kept d (8 * i) w from 8 (omega arith) (omega arith) (omega arith) bytes bytes-w y hit (e ∙ sym whole) (rw at-i f))
+
+  pub whole-turned : (y : ℕ) (hit : Bool) → y ≡ fieldOf w from 8 → (y ≡ getD d i 0 → ⊥)
+      → (set d i y ≡ moved d (8 * i) w from 8) × (true ≡ cond (changed d (8 * i) w from 8) true hit)
+  whole-turned y hit e f =
+      rw at-i at (one-turned d (8 * i) w from 8 (omega arith) (omega arith) (omega arith) bytes bytes-w y hit (e ∙ sym whole) (rw at-i f))
+
+-- the eight bits from bit 8 j + r on, as the code reads them
+pub whole-field : (w : List ℕ) (j r : ℕ) → r < 8
+    → (getD w j 0 * 256 + getD w (j + 1) 0) / 2 ^ (8 - r) % 256 ≡ fieldOf w (8 * j + r) 8
+whole-field w j r h =
+    let q : (8 * j + r) / 8 ≡ j = omega arith in
+    let e : 16 - ((8 * j + r) % 8 + 8) ≡ 8 - r = omega arith in
+    rw (q, e)

@@ -49,18 +49,18 @@ fn byte_or_zero(w: &[u8], j: usize) -> u32
 
 // The k bits of w from bit p on, as a number.
 fn field(w: &[u8], p: usize, k: usize) -> u32
-    requires { ⌜ k ≤ 8 ⌝ }
+    requires { ⌜ (k ≤ 8) × (p / 8 < length (now w)) ⌝ }
     ensures { λ r. ⌜ r ≡ fieldOf (now (w .entry)) p k ⌝ }
 {
     let j = p / 8;
-    let a = byte_or_zero(w, j);
+    let a = wide(w[j]);
     let b = byte_or_zero(w, j + 1);
     ((a * 256 + b) >> (16 - (p % 8 + k))) % (1u32 << k)
 }
 
-// A move within one byte of d; `hit` says whether a move before it changed anything.
+// A move within one byte of d. `hit`, here and below, says whether something changed before.
 fn move_field(d: &mut [u8], to: usize, w: &[u8], from: usize, k: usize, hit: bool) -> bool
-    requires { ⌜ (1 ≤ k) × (to % 8 + k ≤ 8) × (to / 8 < length (now d)) ⌝ }
+    requires { ⌜ (1 ≤ k) × (to % 8 + k ≤ 8) × (to / 8 < length (now d)) × (from / 8 < length (now w)) ⌝ }
     ensures { λ r. ⌜ (now (d .exit) ≡ moved (now (d .entry)) to (now (w .entry)) from k)
         × (r ≡ cond (changed (now (d .entry)) to (now (w .entry)) from k) true hit) ⌝ }
 {
@@ -75,6 +75,40 @@ fn move_field(d: &mut [u8], to: usize, w: &[u8], from: usize, k: usize, hit: boo
     true
 }
 
+// A move to the whole byte i of d, from bit r of byte j of w on.
+fn move_byte(d: &mut [u8], i: usize, w: &[u8], j: usize, r: usize, hit: bool) -> bool
+    requires { ⌜ (i < length (now d)) × (j + 1 < length (now w)) × (r < 8) ⌝ }
+    ensures { λ s. ⌜ (now (d .exit) ≡ moved (now (d .entry)) (8 * i) (now (w .entry)) (8 * j + r) 8)
+        × (s ≡ cond (changed (now (d .entry)) (8 * i) (now (w .entry)) (8 * j + r) 8) true hit) ⌝ }
+{
+    let a = wide(w[j]);
+    let b = wide(w[j + 1]);
+    let y = (((a * 256 + b) >> (8 - r)) % 256) as u8;
+    let old = d[i];
+    d[i] = y;
+    if y == old {
+        return hit;
+    }
+    true
+}
+
+// A move to whole bytes of d, from byte i on. Behind the last of its bits w has one more, so that two bytes can always be read.
+fn move_bytes(d: &mut [u8], i: usize, w: &[u8], from: usize, count: usize, before: bool) -> bool
+    requires { ⌜ (i + count ≤ length (now d)) × (from + 8 * count < 8 * length (now w)) ⌝ }
+    ensures { λ r. ⌜ (now (d .exit) ≡ moved (now (d .entry)) (8 * i) (now (w .entry)) from (8 * count))
+        × (r ≡ cond (changed (now (d .entry)) (8 * i) (now (w .entry)) from (8 * count)) true before) ⌝ }
+{
+    let j = from / 8;
+    let r = from % 8;
+    let mut hit = before;
+    let mut n = 0;
+    while n < count {
+        hit = move_byte(d, i + n, w, j + n, r, hit);
+        n += 1;
+    }
+    hit
+}
+
 // How many of the bits that are left lie in the byte of bit i.
 fn run(i: usize, left: usize) -> usize
     ensures { λ r. ⌜ r ≡ min (8 - i % 8) left ⌝ }
@@ -83,17 +117,22 @@ fn run(i: usize, left: usize) -> usize
     if here < left { here } else { left }
 }
 
+// The bits up to the end of a byte of d, whole bytes, and the one to eight bits that remain. Whether a bit was another comes back.
 pub fn move_bits(d: &mut [u8], to: usize, w: &[u8], from: usize, size: usize) -> bool
     requires { ⌜ (to + size ≤ 8 * length (now d)) × (from + size ≤ 8 * length (now w)) × (to + size < 2 ^ 64) × (from + size < 2 ^ 64) ⌝ }
     ensures { λ r. ⌜ (now (d .exit) ≡ moved (now (d .entry)) to (now (w .entry)) from size)
         × (r ≡ changed (now (d .entry)) to (now (w .entry)) from size) ⌝ }
 {
-    let mut hit = false;
-    let mut n = 0;
-    while n < size {
-        let k = run(to + n, size - n);
-        hit = move_field(d, to + n, w, from + n, k, hit);
-        n += k;
+    if size == 0 {
+        return false;
     }
-    hit
+    let k = run(to, size);
+    let first = move_field(d, to, w, from, k, false);
+    if size == k {
+        return first;
+    }
+    let count = (size - k - 1) / 8;
+    let hit = move_bytes(d, (to + k) / 8, w, from + k, count, first);
+    let n = k + 8 * count;
+    move_field(d, to + n, w, from + n, size - n, hit)
 }

@@ -156,11 +156,17 @@ module _ (d : List ℕ) (to : ℕ) (w : List ℕ) (from : ℕ) where
       (either-later (eqb (bitAt d (to + (n + m))) (bitAt w (from + (n + m))))
       (changed (moved d to w from n) (to + n) w (from + n) m) (changed d to w from n))
 
-  -- m bits moved after n bits: the list, and whether anything changed since the start
-  pub move-on : (n m : ℕ) (l l′ : List ℕ) (hit hit′ : Bool) → l ≡ moved d to w from n → hit ≡ changed d to w from n
-      → l′ ≡ moved l (to + n) w (from + n) m → hit′ ≡ cond (changed l (to + n) w (from + n) m) true hit
-      → (l′ ≡ moved d to w from (n + m)) × (hit′ ≡ changed d to w from (n + m))
-  move-on n m l l′ hit hit′ e f e′ f′ = (e′ ∙ rw (e, moved-add), f′ ∙ rw (e, f, changed-add))
+  -- a move goes on: m bits moved after n bits, from a flag that says whether something changed before
+  pub move-on : (n m all to′ from′ : ℕ) (l l′ : List ℕ) (before hit hit′ : Bool) → to′ ≡ to + n → from′ ≡ from + n → all ≡ n + m
+      → l ≡ moved d to w from n → hit ≡ cond (changed d to w from n) true before
+      → l′ ≡ moved l to′ w from′ m → hit′ ≡ cond (changed l to′ w from′ m) true hit
+      → (l′ ≡ moved d to w from all) × (hit′ ≡ cond (changed d to w from all) true before)
+  move-on n m all to′ from′ l l′ before hit hit′ t f a e h e′ h′ =
+      (e′ ∙ rw (t, f, a, e, moved-add), h′ ∙ rw (t, f, a, e, h, changed-add) (earlier (changed (moved d to w from n) (to + n) w (from + n) m)))
+    where
+      earlier : (b : Bool) → cond b true (cond (changed d to w from n) true before) ≡ cond (cond b true (changed d to w from n)) true before
+      earlier true = refl
+      earlier false = refl
 
   -- the three bits past a record's last word stay as they are
   pub last-kept : (n : ℕ) → 1 ≤ length d → to + n ≤ 8 * length d - 3

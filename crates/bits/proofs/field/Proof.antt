@@ -5,14 +5,17 @@ use borrow.Author.Needs.{needs}
 use Rattle.bits.proofs.field.Statement.{statement}
 use Rattle.bits.proofs.field.Tie as tie
 
-byte-or-zero-requires : tie.Need-byte-or-zero-requires
-byte-or-zero-requires c κs = search needs
+shared-slice-read-wide : tie.Need-shared-slice-read-wide
+shared-slice-read-wide c = search needs
+
+wide-requires : tie.Need-wide-requires
+wide-requires c κs = search needs
 
 add-byte-or-zero : tie.Need-add-byte-or-zero
 add-byte-or-zero c = search needs
 
-byte-or-zero-requires-2 : tie.Need-byte-or-zero-requires-2
-byte-or-zero-requires-2 c κs = search needs
+byte-or-zero-requires : tie.Need-byte-or-zero-requires
+byte-or-zero-requires c κs = search needs
 
 mul-result : tie.Need-mul-result
 mul-result c = search needs
@@ -39,18 +42,19 @@ shl-result : tie.Need-shl-result
 shl-result c = search needs
 
 rem-result : tie.Need-rem-result
-rem-result c = one-shl-pos (c .before .before .before .args .k) (omega arith)
+rem-result c = one-shl-pos (c .before .before .before .before .args .k) (omega arith)
 
 returns : tie.Need-returns
-returns c = rw (one-shl (c .before .before .before .args .k) (omega arith), c .before .byte-or-zero .ensures .0, c .byte-or-zero2 .ensures .0)
+returns c = rw (one-shl (c .before .before .before .before .args .k) (omega arith), c .before .wide .ensures .0, c .byte-or-zero .ensures .0)
 
 pub field-spec : {M : Type 1} → statement M
 field-spec =
     tie.close
     (tie.spec
-    byte-or-zero-requires
+    shared-slice-read-wide
+    wide-requires
     add-byte-or-zero
-    byte-or-zero-requires-2
+    byte-or-zero-requires
     mul-result
     add-result
     add-result-2

@@ -1,79 +1,103 @@
--- `move_bits` is right: after each turn the list and the flag are those of a move of the bits so far, since moves add up.
-use mathlib.Core.Path.{_≡_, refl, _∙_}
-use Prim.Native.Nat.{_-_, _≤_}
+-- `move_bits` is right: the bits of the first byte, the whole bytes and the bits that remain, moved in turn, are one move.
+use mathlib.Core.Path.{refl, _∙_}
+use Prim.Native.Nat.{_+_, _-_, _*_, _/_}
 use native.Mathlib.Omega.{arith}
-use lib.ListN.{length}
-use Rattle.paper.specs.Bits.{moved, changed}
-use Rattle.paper.proofs.Bits.{move-on}
+use Rattle.bits.proofs.InTurn.{no-bits, one-move, three-moves, first-ends, rest-fits}
+use borrow.Author.Needs.{needs}
 use Rattle.bits.proofs.move_bits.Statement.{statement}
 use Rattle.bits.proofs.move_bits.Tie as tie
 
-abbrev Inv-loop : tie.InvT-loop
-Inv-loop d₀ to w from size hit₀ n₀ d hit n = (n ≤ size) × (length d ≡ length d₀) × (d ≡ moved d₀ to w from n) × (hit ≡ changed d₀ to w from n)
-
-abbrev μ-loop : tie.MeasureT-loop
-μ-loop d₀ to w from size hit₀ n₀ d hit n = size - n
-
-loop-holds : tie.Need-loop-holds Inv-loop μ-loop
-unfolding moved changed
-loop-holds c = (omega arith, refl, refl, refl)
-
-add-run : tie.Need-add-run Inv-loop μ-loop
-add-run c = omega arith
-
-sub-run : tie.Need-sub-run Inv-loop μ-loop
-sub-run c = omega arith
-
-run-requires : tie.Need-run-requires Inv-loop μ-loop
-run-requires c κs = tt
-
-add-move-field : tie.Need-add-move-field Inv-loop μ-loop
-add-move-field c = omega arith
-
-add-move-field-2 : tie.Need-add-move-field-2 Inv-loop μ-loop
-add-move-field-2 c = omega arith
-
-move-field-requires : tie.Need-move-field-requires Inv-loop μ-loop
-move-field-requires c κs = omega arith
-
-add-n : tie.Need-add-n Inv-loop μ-loop
-add-n c = omega arith
-
-loop-less : tie.Need-loop-less Inv-loop μ-loop
-loop-less c = omega arith
-
-loop-again : tie.Need-loop-again Inv-loop μ-loop
-loop-again c =
-    let a = c .before .before .before .before .before .before .before .before .before .args in
-    let l = c .before .before .before .before .before .before .loop in
-    let m = c .before .before .move-field in
-    let k = c .before .before .before .before .run .result in
-    let on = move-on (a .d .now) (a .to) (a .w .now) (a .from) (l .n) k (l .d) (m .last .0) (l .hit) (m .result) (l .inv .2) (l .inv .3) (m .ensures .0) (m .ensures .1) in
-    (omega arith, m .kept .0 ∙ l .inv .1, on .0, on .1)
-
-same-length : tie.Need-same-length Inv-loop μ-loop
-same-length c = c .before .loop .inv .1
-
-returns : tie.Need-returns Inv-loop μ-loop
+returns : tie.Need-returns
 returns c =
-    let e : c .before .loop .n ≡ c .before .before .before .before .args .size = omega arith in
-    (rw e at (c .before .loop .inv .2), rw e at (c .before .loop .inv .3))
+    let a = c .before .before .before .args in
+    no-bits (a .d .now) (a .to) (a .w .now) (a .from) (a .size) (c .if1 .taken)
+
+run-requires : tie.Need-run-requires
+run-requires c κs = search needs
+
+move-field-requires : tie.Need-move-field-requires
+move-field-requires c κs = search needs
+
+same-length : tie.Need-same-length
+same-length c = search needs
+
+returns-2 : tie.Need-returns-2
+returns-2 c =
+    let a = c .before .before .before .before .before .before .before .before .before .args in
+    let m = c .before .before .before .move-field in
+    one-move (a .d .now) (a .to) (a .w .now) (a .from) (a .size) (c .before .before .before .before .before .run .result) (m .last .0) (m .result) (c .if2 .taken) (m .ensures .0) (m .ensures .1)
+
+sub-count : tie.Need-sub-count
+sub-count c = search needs
+
+sub-count-2 : tie.Need-sub-count-2
+sub-count-2 c = search needs
+
+add-move-bytes : tie.Need-add-move-bytes
+add-move-bytes c = search needs
+
+add-move-bytes-2 : tie.Need-add-move-bytes-2
+add-move-bytes-2 c = search needs
+
+move-bytes-requires : tie.Need-move-bytes-requires
+move-bytes-requires c κs = search needs
+
+mul-n : tie.Need-mul-n
+mul-n c = search needs
+
+add-n : tie.Need-add-n
+add-n c = search needs
+
+add-move-field : tie.Need-add-move-field
+add-move-field c = search needs
+
+add-move-field-2 : tie.Need-add-move-field-2
+add-move-field-2 c = search needs
+
+sub-move-field : tie.Need-sub-move-field
+sub-move-field c = search needs
+
+move-field-requires-2 : tie.Need-move-field-requires-2
+move-field-requires-2 c κs =
+    let s = c .before .before .before .before .before .before .before .before .before .before .before .before .before .before in
+    let k = c .before .before .before .before .before .before .before .before .before .before .run .result in
+    let ends = first-ends (s .args .to) (s .args .size) k (c .before .before .before .before .before .before .before .before .before .before .run .ensures) (c .before .before .before .before .before .if2 .left) in
+    let same = c .before .before .before .move-bytes .kept .0 ∙ c .before .before .before .before .before .before .before .before .move-field .kept .0 in
+    rest-fits (s .args .to) (s .args .from) (s .args .size) k ((s .args .to + k) / 8) _ _ (ends .0) (ends .1) (rw same (s .pre .0)) (s .pre .1) _ refl
+
+same-length-2 : tie.Need-same-length-2
+same-length-2 c = search needs
+
+returns-3 : tie.Need-returns-3
+returns-3 c =
+    let a = c .before .before .before .before .before .before .before .before .before .before .before .before .before .before .before .before .before .args in
+    let k = c .before .before .before .before .before .before .before .before .before .before .before .before .before .run .result in
+    let f = c .before .before .before .before .before .before .before .before .before .before .before .move-field in
+    let m = c .before .before .before .before .before .before .move-bytes in
+    let t = c .before .before .move-field2 in
+    three-moves (a .d .now) (a .to) (a .w .now) (a .from) (a .size) k ((a .size - k - 1) / 8) ((a .to + k) / 8) (k + 8 * ((a .size - k - 1) / 8))
+    (f .last .0) (m .last .0) (t .last .0) (f .result) (m .result) (t .result) (omega arith) (omega arith) (omega arith)
+    (f .ensures .0) (f .ensures .1) (m .ensures .0) (m .ensures .1) (t .ensures .0) (t .ensures .1)
 
 pub move-bits-spec : {M : Type 1} → statement M
 move-bits-spec =
     tie.close
     (tie.spec
-    Inv-loop
-    μ-loop
-    loop-holds
-    add-run
-    sub-run
+    returns
     run-requires
+    move-field-requires
+    same-length
+    returns-2
+    sub-count
+    sub-count-2
+    add-move-bytes
+    add-move-bytes-2
+    move-bytes-requires
+    mul-n
+    add-n
     add-move-field
     add-move-field-2
-    move-field-requires
-    add-n
-    loop-less
-    loop-again
-    same-length
-    returns)
+    sub-move-field
+    move-field-requires-2
+    same-length-2
+    returns-3)

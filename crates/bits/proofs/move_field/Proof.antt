@@ -1,7 +1,7 @@
 -- `move_field` is right: a move within one byte is one byte set, and it changed something exactly when that byte is another.
+use mathlib.Core.Path.{_∙_}
 use native.Mathlib.Omega.{arith}
 use Rattle.bits.proofs.OneByte.{field-small, one-kept, one-turned}
-use mathlib.Core.Path.{_∙_}
 use borrow.Author.Needs.{needs}
 use Rattle.bits.proofs.move_field.Statement.{statement}
 use Rattle.bits.proofs.move_field.Tie as tie
