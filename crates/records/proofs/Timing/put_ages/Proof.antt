@@ -1,0 +1,43 @@
+-- `records::Timing::put_ages` meets its contract: the lent part comes back as the ages.
+use mathlib.Core.Path.{refl}
+use Rattle.paper.proofs.Parts.{part-back}
+use borrow.Author.Needs.{needs}
+use Rattle.records.proofs.Timing.put_ages.Statement.{statement}
+use Rattle.records.proofs.Timing.put_ages.Tie as tie
+
+add-copy : tie.Need-add-copy
+add-copy c = search needs
+
+sub-copy : tie.Need-sub-copy
+sub-copy c = search needs
+
+part-copy-start : tie.Need-part-copy-start
+part-copy-start c = search needs
+
+part-copy-end : tie.Need-part-copy-end
+part-copy-end c = search needs
+
+slice-aggregate-copy : tie.Need-slice-aggregate-copy
+slice-aggregate-copy c = search needs
+
+copy-requires : tie.Need-copy-requires
+copy-requires c κs = search needs
+
+same-length : tie.Need-same-length
+same-length c = search needs
+
+returns : tie.Need-returns
+returns c = part-back _ 3 2 2 _ _ refl (c .before .before .copy .ensures)
+
+pub put-ages-spec : {M : Type 1} → statement M
+put-ages-spec =
+    tie.close
+    (tie.spec
+    add-copy
+    sub-copy
+    part-copy-start
+    part-copy-end
+    slice-aggregate-copy
+    copy-requires
+    same-length
+    returns)

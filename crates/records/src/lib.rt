@@ -1,0 +1,179 @@
+// The two kinds of record with their sizes, and the ages of a record, which travel as a small array by value. What is done to
+// ages is written once, over any number of them.
+ghost use mathlib.Core.Path.{_≡_};
+ghost use mathlib.Core.List.{map};
+ghost use Prim.Native.Nat.{max, min};
+ghost use lib.ListN.{length};
+ghost use Rattle.paper.specs.Parts.{onPart};
+ghost use Rattle.paper.specs.Record.{CED, Timing as TIMING, ages, size, agesOf, older, greatest, least};
+
+// The ages of a record of either kind stand behind its satellite and its count.
+const AGES_FROM: usize = 3;
+
+// "CED: 549 bits in 69 bytes, five ages."
+pub struct Ced;
+
+impl Ced {
+    pub const BITS: usize = 549;
+
+    pub const BYTES: usize = 69;
+    // The words that fill a record; it has an age for each.
+    pub const WORDS: usize = 5;
+    // The whole record: its satellite 1, its count 2, its ages, its data.
+    pub const SIZE: usize = 77;
+
+    // The ages of a record.
+    pub fn ages(bytes: &[u8]) -> [u8; Ced::WORDS]
+        requires { ⌜ length (now bytes) ≡ size CED ⌝ }
+        ensures { λ r. ⌜ r ≡ agesOf CED (now (bytes .entry)) ⌝ }
+    {
+        let mut found = [0u8; Ced::WORDS];
+        copy(&mut found, &bytes[AGES_FROM..AGES_FROM + Ced::WORDS]);
+        found
+    }
+
+    // The record with these ages.
+    pub fn put_ages(bytes: &mut [u8], new: [u8; Ced::WORDS])
+        requires { ⌜ length (now bytes) ≡ size CED ⌝ }
+        ensures { λ _. ⌜ now (bytes .exit) ≡ onPart (λ _. new) 3 (ages CED) (now (bytes .entry)) ⌝ }
+    {
+        copy(&mut bytes[AGES_FROM..AGES_FROM + Ced::WORDS], &new);
+    }
+
+    // Each age so much more, held at 255.
+    pub fn older(ages: [u8; Ced::WORDS], by: u8) -> [u8; Ced::WORDS]
+        ensures { λ r. ⌜ r ≡ map (older by) ages ⌝ }
+    {
+        let mut aged = ages;
+        all_older(&mut aged, by);
+        aged
+    }
+
+    pub fn greatest(ages: [u8; Ced::WORDS]) -> u8
+        ensures { λ r. ⌜ r ≡ greatest ages ⌝ }
+    {
+        greatest_of(&ages)
+    }
+
+    pub fn least(ages: [u8; Ced::WORDS]) -> u8
+        ensures { λ r. ⌜ r ≡ least ages ⌝ }
+    {
+        least_of(&ages)
+    }
+}
+
+// "Timing: 141 bits in 18 bytes, two ages."
+pub struct Timing;
+
+impl Timing {
+    pub const BITS: usize = 141;
+
+    pub const BYTES: usize = 18;
+    // The words that fill a record; it has an age for each.
+    pub const WORDS: usize = 2;
+    // The whole record: its satellite 1, its count 2, its ages, its data.
+    pub const SIZE: usize = 23;
+
+    // The ages of a record.
+    pub fn ages(bytes: &[u8]) -> [u8; Timing::WORDS]
+        requires { ⌜ length (now bytes) ≡ size TIMING ⌝ }
+        ensures { λ r. ⌜ r ≡ agesOf TIMING (now (bytes .entry)) ⌝ }
+    {
+        let mut found = [0u8; Timing::WORDS];
+        copy(&mut found, &bytes[AGES_FROM..AGES_FROM + Timing::WORDS]);
+        found
+    }
+
+    // The record with these ages.
+    pub fn put_ages(bytes: &mut [u8], new: [u8; Timing::WORDS])
+        requires { ⌜ length (now bytes) ≡ size TIMING ⌝ }
+        ensures { λ _. ⌜ now (bytes .exit) ≡ onPart (λ _. new) 3 (ages TIMING) (now (bytes .entry)) ⌝ }
+    {
+        copy(&mut bytes[AGES_FROM..AGES_FROM + Timing::WORDS], &new);
+    }
+
+    // Each age so much more, held at 255.
+    pub fn older(ages: [u8; Timing::WORDS], by: u8) -> [u8; Timing::WORDS]
+        ensures { λ r. ⌜ r ≡ map (older by) ages ⌝ }
+    {
+        let mut aged = ages;
+        all_older(&mut aged, by);
+        aged
+    }
+
+    pub fn greatest(ages: [u8; Timing::WORDS]) -> u8
+        ensures { λ r. ⌜ r ≡ greatest ages ⌝ }
+    {
+        greatest_of(&ages)
+    }
+
+    pub fn least(ages: [u8; Timing::WORDS]) -> u8
+        ensures { λ r. ⌜ r ≡ least ages ⌝ }
+    {
+        least_of(&ages)
+    }
+}
+
+fn copy(to: &mut [u8], from: &[u8])
+    requires { ⌜ length (now to) ≡ length (now from) ⌝ }
+    ensures { λ _. ⌜ now (to .exit) ≡ now (from .entry) ⌝ }
+{
+    let mut i: usize = 0;
+    while i < from.len() {
+        to[i] = from[i];
+        i += 1;
+    }
+}
+
+// "held at 255"
+fn one_older(age: u8, by: u8) -> u8
+    ensures { λ r. ⌜ r ≡ older by age ⌝ }
+{
+    if by < 255 - age { age + by } else { 255 }
+}
+
+fn all_older(ages: &mut [u8], by: u8)
+    ensures { λ _. ⌜ now (ages .exit) ≡ map (older by) (now (ages .entry)) ⌝ }
+{
+    let mut i: usize = 0;
+    while i < ages.len() {
+        ages[i] = one_older(ages[i], by);
+        i += 1;
+    }
+}
+
+fn larger(a: u8, b: u8) -> u8
+    ensures { λ r. ⌜ r ≡ max a b ⌝ }
+{
+    if a < b { b } else { a }
+}
+
+fn smaller(a: u8, b: u8) -> u8
+    ensures { λ r. ⌜ r ≡ min a b ⌝ }
+{
+    if a < b { a } else { b }
+}
+
+fn greatest_of(ages: &[u8]) -> u8
+    ensures { λ r. ⌜ r ≡ greatest (now (ages .entry)) ⌝ }
+{
+    let mut top: u8 = 0;
+    let mut i: usize = 0;
+    while i < ages.len() {
+        top = larger(top, ages[i]);
+        i += 1;
+    }
+    top
+}
+
+fn least_of(ages: &[u8]) -> u8
+    ensures { λ r. ⌜ r ≡ least (now (ages .entry)) ⌝ }
+{
+    let mut low: u8 = 255;
+    let mut i: usize = 0;
+    while i < ages.len() {
+        low = smaller(low, ages[i]);
+        i += 1;
+    }
+    low
+}
