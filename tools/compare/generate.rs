@@ -50,9 +50,9 @@ const LENGTHS: [u8; 5] = [20, 24, 28, 32, 40];
 
 type Time = (u16, u32);
 
-/// A time moved by whole seconds, kept inside the representable ones.
+/// The start of a subframe moved by whole subframes, given in seconds, and kept between the first and the last.
 fn moved((week, time): Time, seconds: i64) -> Time {
-    let last = 65_536 * i64::from(WEEK) - 1;
+    let last = 65_536 * i64::from(WEEK) - 30;
     let sum = (i64::from(week) * i64::from(WEEK) + i64::from(time) + seconds).clamp(0, last);
     (
         (sum / i64::from(WEEK)) as u16,
@@ -274,10 +274,10 @@ impl Stream {
 
     fn tag(&mut self, satellite: u8, kind: u8, time: Time, sure: bool) {
         let cop = match self.chance.below(20) {
-            x if x < 8 || sure => 15,
+            x if x < 11 || sure => 15,
             18 => 0,
             19 => 1,
-            x if x < 12 => self.chance.within(1, 4) as u8,
+            x if x < 13 => self.chance.within(1, 4) as u8,
             _ => self.chance.within(1, 15) as u8,
         };
         let cop = if self.chance.percent(self.faults) {
@@ -346,7 +346,6 @@ impl Stream {
             97 => self.chance.of(&self.rows.clone()).unwrap_or(self.now),
             _ => self.any_time(),
         };
-        self.now.1 -= self.now.1 % 30;
     }
 
     fn any_time(&mut self) -> Time {
@@ -392,8 +391,9 @@ impl Stream {
 
     fn constellation(&mut self) {
         let n = self.size.map_or(4, |(_, n)| u64::from(n));
-        self.pick_satellites(n + 3);
-        let lost = self.chance.of(&[0, 5, 20, 60]);
+        let more = self.chance.of(&[0, 0, 1, 3]);
+        self.pick_satellites(n + more);
+        let lost = self.chance.of(&[0, 0, 5, 20, 60]);
         for _ in 0..self.chance.within(3, 12) {
             for satellite in self.satellites.clone() {
                 if self.chance.percent(70) {
@@ -425,9 +425,7 @@ impl Stream {
 
     fn pool(&mut self) {
         self.pick_satellites(5);
-        let times: Vec<Time> = (0..4)
-            .map(|i| moved((self.now.0, self.now.1 - self.now.1 % 30), 30 * i))
-            .collect();
+        let times: Vec<Time> = (0..4).map(|i| moved(self.now, 30 * i)).collect();
         for _ in 0..self.chance.within(50, 400) {
             match self.chance.below(40) {
                 0..22 => {
