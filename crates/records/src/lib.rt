@@ -14,12 +14,13 @@ const AGES_FROM: usize = 3;
 pub struct Ced;
 
 impl Ced {
+    // the bits of its data
     pub const BITS: usize = 549;
-
+    // the bytes that hold them
     pub const BYTES: usize = 69;
-    // The words that fill a record; it has an age for each.
+    // the words that fill them, with an age for each
     pub const WORDS: usize = 5;
-    // The whole record: its satellite 1, its count 2, its ages, its data.
+    // the bytes of a record: its satellite 1, its count 2, its ages, its data
     pub const SIZE: usize = 77;
 
     // The ages of a record.
@@ -32,7 +33,7 @@ impl Ced {
         found
     }
 
-    // The record with these ages.
+    // The record with these ages in the place of its own.
     pub fn put_ages(bytes: &mut [u8], new: [u8; Ced::WORDS])
         requires { ⌜ length (now bytes) ≡ size CED ⌝ }
         ensures { λ _. ⌜ now (bytes .exit) ≡ onPart (λ _. new) 3 (ages CED) (now (bytes .entry)) ⌝ }
@@ -49,12 +50,14 @@ impl Ced {
         aged
     }
 
+    // The greatest of the ages.
     pub fn greatest(ages: [u8; Ced::WORDS]) -> u8
         ensures { λ r. ⌜ r ≡ greatest ages ⌝ }
     {
         greatest_of(&ages)
     }
 
+    // The least of the ages.
     pub fn least(ages: [u8; Ced::WORDS]) -> u8
         ensures { λ r. ⌜ r ≡ least ages ⌝ }
     {
@@ -66,12 +69,13 @@ impl Ced {
 pub struct Timing;
 
 impl Timing {
+    // the bits of its data
     pub const BITS: usize = 141;
-
+    // the bytes that hold them
     pub const BYTES: usize = 18;
-    // The words that fill a record; it has an age for each.
+    // the words that fill them, with an age for each
     pub const WORDS: usize = 2;
-    // The whole record: its satellite 1, its count 2, its ages, its data.
+    // the bytes of a record: its satellite 1, its count 2, its ages, its data
     pub const SIZE: usize = 23;
 
     // The ages of a record.
@@ -84,7 +88,7 @@ impl Timing {
         found
     }
 
-    // The record with these ages.
+    // The record with these ages in the place of its own.
     pub fn put_ages(bytes: &mut [u8], new: [u8; Timing::WORDS])
         requires { ⌜ length (now bytes) ≡ size TIMING ⌝ }
         ensures { λ _. ⌜ now (bytes .exit) ≡ onPart (λ _. new) 3 (ages TIMING) (now (bytes .entry)) ⌝ }
@@ -101,12 +105,14 @@ impl Timing {
         aged
     }
 
+    // The greatest of the ages.
     pub fn greatest(ages: [u8; Timing::WORDS]) -> u8
         ensures { λ r. ⌜ r ≡ greatest ages ⌝ }
     {
         greatest_of(&ages)
     }
 
+    // The least of the ages.
     pub fn least(ages: [u8; Timing::WORDS]) -> u8
         ensures { λ r. ⌜ r ≡ least ages ⌝ }
     {
@@ -114,6 +120,7 @@ impl Timing {
     }
 }
 
+// What follows is over any number of ages.
 fn copy(to: &mut [u8], from: &[u8])
     requires { ⌜ length (now to) ≡ length (now from) ⌝ }
     ensures { λ _. ⌜ now (to .exit) ≡ now (from .entry) ⌝ }
