@@ -1,0 +1,4 @@
+pub mod Records
+pub mod Rows
+pub mod Rooms
+pub mod Stays
