@@ -484,24 +484,21 @@ impl Stream {
     fn cap(&mut self) {
         self.pick_satellites(2);
         let satellite = self.satellites[0];
-        self.all_words(satellite, self.now, 0);
-        let kinds: &[u8] = self.chance.of(&[&[0, 12], &[4], &[0], &[0, 4]]);
-        let (row, ends) = (self.now, self.chance.within(1500, 1900));
+        for _ in 0..3 {
+            self.all_words(satellite, self.now, 0); // again, since now and then one goes by E5B or with a bit changed
+        }
+        let kinds: &[u8] = self.chance.of(&[&[0, 12], &[4], &[0]]);
+        let (row, ends) = (self.now, self.chance.within(1650, 1850));
         for step in 0..ends {
             let kind = self.chance.of(kinds);
-            self.tag(satellite, kind, moved(row, 30), step + 60 < ends);
+            self.tag(satellite, kind, moved(row, 30), step + 10 < ends);
             if self.chance.percent(3) {
                 self.put(if kind == 4 { 5 } else { 4 }, &[&[satellite]]);
             }
-            if self.chance.percent(1) && self.chance.percent(10) {
-                self.all_words(satellite, row, 0);
-            }
-            if self.full() {
-                return;
-            }
         }
-        self.put(4, &[&[satellite]]);
-        self.put(5, &[&[satellite]]);
+        for kind in [4, 5] {
+            self.put(kind, &[&[satellite]]);
+        }
     }
 
     /// Times where the arithmetic ends: an answer's time may lie before the first week.
@@ -576,7 +573,12 @@ impl Stream {
     }
 
     fn stretch(&mut self) {
-        let mood = match self.chance.below(100) {
+        let mood = self.mood();
+        self.stretch_of(mood);
+    }
+
+    fn mood(&mut self) -> Mood {
+        match self.chance.below(100) {
             0..44 => Mood::Constellation,
             44..66 => Mood::Pool,
             66..74 => Mood::Advance,
@@ -584,7 +586,10 @@ impl Stream {
             75..84 => Mood::Edge,
             84..94 => Mood::Faults,
             _ => Mood::Sizes,
-        };
+        }
+    }
+
+    fn stretch_of(&mut self, mood: Mood) {
         self.same_look = self.chance.percent(30);
         self.versions = [self.chance.below(4) as u8; 37];
         self.faults = if mood == Mood::Faults { 10 } else { 0 };
@@ -668,6 +673,9 @@ fn stream(seed: u64, records: usize, whole: bool) -> Vec<u8> {
     };
     if stream.chance.percent(40) || whole {
         stream.before_any_store();
+    }
+    if seed % 8 == 0 {
+        stream.stretch_of(Mood::Cap); // too long to be drawn often, so that short streams would seldom have one
     }
     while !stream.full() {
         stream.stretch();
