@@ -2,3 +2,5 @@ pub mod Records
 pub mod Rows
 pub mod Rooms
 pub mod Stays
+pub mod BytesStay
+pub mod Untouched

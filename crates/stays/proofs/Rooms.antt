@@ -191,7 +191,7 @@ module _ (w t sat band : ℕ) (word room : List ℕ) (s : isStore room ≡ true)
   fed-store = store-still room (fed w t sat band word room) s (fed-facts w t sat band word room F) (fed-header w t sat band word room F) fed-row
 
 -- what a word asks for, where its number is 0
-feed-allowed : (word : List ℕ) (sat t band : ℕ) (room : List ℕ) → feedNumber word sat t band room ≡ 0 → (isSatellite sat ≡ true) × (isTime t ≡ true)
+pub feed-allowed : (word : List ℕ) (sat t band : ℕ) (room : List ℕ) → feedNumber word sat t band room ≡ 0 → (isSatellite sat ≡ true) × (isTime t ≡ true)
 unfolding feedNumber
 feed-allowed word sat t band room e =
     let a = unless-zero (isStore room) 3 _ (λ z. omega (arith, z)) e in
