@@ -543,10 +543,13 @@ impl Stream {
 
     fn sizes(&mut self) {
         for _ in 0..self.chance.within(3, 20) {
-            if self.chance.percent(40) {
-                self.refused_fresh();
-            } else {
-                self.some_fresh(false);
+            match self.chance.below(10) {
+                0..3 => self.refused_fresh(),
+                3..9 => {
+                    let (d, n) = (self.chance.within(1, 16), self.chance.within(1, 36));
+                    self.fresh(d as u8, n as u8);
+                }
+                _ => self.some_fresh(false),
             }
             self.pick_satellites(6);
             for _ in 0..self.chance.below(12) {
