@@ -1,0 +1,66 @@
+-- Laws of the comparison: byte by byte, and the last byte by its top five bits. Assumes nothing.
+use native.Mathlib.Omega.{arith}
+use native.Mathlib.Numerals.{add-one}
+use mathlib.Core.Path.{_≡_, refl, sym, ap, _∙_}
+use mathlib.Core.Bool.{Bool, true, false, _&&_}
+use mathlib.Core.List.{List, [], _∷_, _++_}
+use borrow.Author.Tests.{eq-eqb, ne-eqb}
+use lib.Dec.{eqb}
+use lib.ListN.{length, take, drop, getD, drop-of-length-le}
+use lib.Seq.{drop-cons, length-take-le, getD-take}
+use Prim.Native.Nat.{ℕ, zero, suc, _+_, _-_, _/_, _≤_, _<_}
+use Rattle.paper.specs.Record.{Family, CED, Timing, familyIf, dataBytes, sameList, sameBits}
+
+one-more : (a b : List ℕ) (i : ℕ) → i < length a → i < length b
+    → sameList (drop i a) (drop i b) ≡ (eqb (getD a i 0) (getD b i 0) && sameList (drop (i + 1) a) (drop (i + 1) b))
+unfolding sameList
+one-more a b i h k = rw (add-one, drop-cons a i 0 h, drop-cons b i 0 k)
+
+module _ (n i : ℕ) (a b : List ℕ) (na : n ≤ length a) (nb : n ≤ length b)
+    (e : sameList (take n a) (take n b) ≡ sameList (drop i (take n a)) (drop i (take n b))) where
+  turn : i < n
+      → sameList (take n a) (take n b) ≡ (eqb (getD a i 0) (getD b i 0) && sameList (drop (i + 1) (take n a)) (drop (i + 1) (take n b)))
+  turn h =
+      let la : i < length (take n a) = omega (arith, length-take-le n a na) in
+      let lb : i < length (take n b) = omega (arith, length-take-le n b nb) in
+      rw (getD-take n a i 0 h, getD-take n b i 0 h) at (e ∙ one-more (take n a) (take n b) i la lb)
+
+  pub bytes-differ : i < n → (getD a i 0 ≡ getD b i 0 → ⊥) → false ≡ sameList (take n a) (take n b)
+  bytes-differ h d = sym (rw (ne-eqb (getD a i 0) (getD b i 0) d) at (turn h))
+
+  pub bytes-go : i < n → getD a i 0 ≡ getD b i 0 → sameList (take n a) (take n b) ≡ sameList (drop (i + 1) (take n a)) (drop (i + 1) (take n b))
+  bytes-go h q = rw (eq-eqb (getD a i 0) (getD b i 0) q) at (turn h)
+
+  pub bytes-done : n ≤ i → true ≡ sameList (take n a) (take n b)
+  unfolding sameList
+  bytes-done h =
+      let za : drop i (take n a) ≡ [] = drop-of-length-le (take n a) {i = i} (omega (arith, length-take-le n a na)) in
+      let zb : drop i (take n b) ≡ [] = drop-of-length-le (take n b) {i = i} (omega (arith, length-take-le n b nb)) in
+      sym (e ∙ rw (za, zb))
+
+swap : (p q r : Bool) → (p && (q && r)) ≡ (q && (p && r))
+swap true q r = refl
+swap false true r = refl
+swap false false r = refl
+
+-- lists of one length with one element more each
+same-last : (x y : List ℕ) (p q : ℕ) → length x ≡ length y → sameList (x ++ (p ∷ [])) (y ++ (q ∷ [])) ≡ (eqb p q && sameList x y)
+unfolding sameList
+same-last [] [] p q e = refl
+same-last [] (b ∷ ys) p q e = absurd (omega arith)
+same-last (a ∷ xs) [] p q e = absurd (omega arith)
+same-last (a ∷ xs) (b ∷ ys) p q e =
+    ap (λ (t : Bool). eqb a b && t) (same-last xs ys p q (omega arith)) ∙ swap (eqb a b) (eqb p q) (sameList xs ys)
+
+pub bytes-of : (timing : Bool) → 1 ≤ dataBytes (familyIf timing)
+bytes-of true = omega arith
+bytes-of false = omega arith
+
+-- "all its bits", by bytes
+pub bits-by-bytes : (f : Family) (a b : List ℕ) (k : ℕ) → k ≡ dataBytes f - 1 → length a ≡ dataBytes f → length b ≡ dataBytes f
+    → sameBits f a b ≡ (eqb (getD a k 0 / 8) (getD b k 0 / 8) && sameList (take k a) (take k b))
+unfolding sameBits
+bits-by-bytes f a b k z la lb =
+    let ta : length (take k a) ≡ k = length-take-le k a (omega arith) in
+    let tb : length (take k b) ≡ k = length-take-le k b (omega arith) in
+    rw (← z) (same-last (take k a) (take k b) (getD a k 0 / 8) (getD b k 0 / 8) (ta ∙ sym tb))

@@ -1,0 +1,144 @@
+// What an accepted tag adds: its length to each record, in any row, with the candidate's satellite and all its bits.
+// The given data takes the candidate's place in the comparison: the two agree in all bits that are compared.
+ghost use mathlib.Core.Path.{_≡_};
+ghost use mathlib.Core.Bool.{cond};
+ghost use Prim.Native.Nat.{_+_, _*_, _≤_, _<_, min};
+ghost use lib.ListN.{length, take, getD};
+ghost use Rattle.paper.specs.Record.{familyIf, size, dataAt, dataBytes, count, sameList, sameBits, withCount};
+ghost use Rattle.paper.specs.Room.{base, slotSize, rowSize, roomSize, inSlot, eachRecord, everyRecord, howMany, howManyIn, depth, slots};
+ghost use Rattle.paper.specs.Parts.{part, onParts, sumParts};
+ghost use Rattle.paper.specs.Tag.{matches, credited};
+ghost use Rattle.credit.specs.Slot.{takes};
+use records::Ced;
+use records::Timing;
+
+// The sizes of a family.
+fn size_of(timing: bool) -> usize
+    ensures { λ r. ⌜ (r ≡ size (familyIf timing)) × (r ≤ 77) ⌝ }
+{
+    if timing { Timing::SIZE } else { Ced::SIZE }
+}
+
+fn data_at(timing: bool) -> usize
+    ensures { λ r. ⌜ r ≡ dataAt (familyIf timing) ⌝ }
+{
+    if timing {
+        Timing::SIZE - Timing::BYTES
+    } else {
+        Ced::SIZE - Ced::BYTES
+    }
+}
+
+fn base_of(timing: bool) -> usize
+    ensures { λ r. ⌜ r ≡ base (familyIf timing) ⌝ }
+{
+    if timing { Ced::SIZE } else { 0 }
+}
+
+// Whether the first n bytes are the same.
+fn same_bytes(a: &[u8], b: &[u8], n: usize) -> bool
+    requires { ⌜ (n ≤ length (now a)) × (n ≤ length (now b)) ⌝ }
+    ensures { λ r. ⌜ r ≡ sameList (take n (now (a .entry))) (take n (now (b .entry))) ⌝ }
+{
+    let mut i: usize = 0;
+    while i < n {
+        if a[i] != b[i] {
+            return false;
+        }
+        i += 1;
+    }
+    true
+}
+
+// Whether two data agree in the 549 or 141 bits of their family.
+pub fn same_bits(a: &[u8], b: &[u8], timing: bool) -> bool
+    requires { ⌜ (length (now a) ≡ dataBytes (familyIf timing)) × (length (now b) ≡ dataBytes (familyIf timing)) ⌝ }
+    ensures { λ r. ⌜ r ≡ sameBits (familyIf timing) (now (a .entry)) (now (b .entry)) ⌝ }
+{
+    let last = a.len() - 1;
+    if a[last] / 8 != b[last] / 8 {
+        return false;
+    }
+    same_bytes(a, b, last)
+}
+
+// The sum, held at 65535.
+fn held(count: u16, added: u8) -> u16
+    ensures { λ r. ⌜ r ≡ min 65535 (count + added) ⌝ }
+{
+    let more = added as u16;
+    if count > 65535 - more {
+        return 65535;
+    }
+    count + more
+}
+
+// A record with the length added to its count.
+fn add_length(rec: &mut [u8], added: u8)
+    requires { ⌜ 3 ≤ length (now rec) ⌝ }
+    ensures { λ _. ⌜ now (rec .exit) ≡ withCount (min 65535 (count (now (rec .entry)) + added)) (now (rec .entry)) ⌝ }
+{
+    let sum = held(numbers::read16(rec, 1), added);
+    numbers::write16(rec, 1, sum);
+}
+
+// A slot's record of the family takes the tag if it has the satellite and the bits: 1 if it took it, else 0.
+fn credit_slot(slot: &mut [u8], timing: bool, sat: u8, bits: &[u8], added: u8) -> u32
+    requires { ⌜ (length (now slot) ≡ 100) × (length (now bits) ≡ dataBytes (familyIf timing)) ⌝ }
+    ensures { λ r. ⌜ (now (slot .exit) ≡ inSlot (familyIf timing) (credited (familyIf timing) sat (now (bits .entry)) added) (now (slot .entry))) × (r ≡ takes (familyIf timing) sat (now (bits .entry)) (now (slot .entry))) ⌝ }
+{
+    let a = base_of(timing);
+    if slot[a] != sat {
+        return 0;
+    }
+    let e = a + size_of(timing);
+    let d = a + data_at(timing);
+    if !same_bits(&slot[d..e], bits, timing) {
+        return 0;
+    }
+    add_length(&mut slot[a..e], added);
+    1
+}
+
+// The records of a family in a row.
+fn credit_row(row: &mut [u8], n: usize, timing: bool, sat: u8, bits: &[u8], added: u8) -> u32
+    requires { ⌜ (n ≤ 36) × ((rowSize n ≤ length (now row)) × (length (now bits) ≡ dataBytes (familyIf timing))) ⌝ }
+    ensures { λ r. ⌜ (now (row .exit) ≡ eachRecord (familyIf timing) n (credited (familyIf timing) sat (now (bits .entry)) added) (now (row .entry))) × ((r ≡ howMany (familyIf timing) n (matches (familyIf timing) sat (now (bits .entry))) (now (row .entry))) × (r ≤ n)) ⌝ }
+{
+    let mut total: u32 = 0;
+    let mut at: usize = 8;
+    let mut left = n;
+    while left > 0 {
+        let e = at + 100;
+        total += credit_slot(&mut row[at..e], timing, sat, bits, added);
+        at = e;
+        left -= 1;
+    }
+    total
+}
+
+// The records of a family in all rows: how many took the tag.
+pub fn credit_rows(
+    room: &mut [u8],
+    d: usize,
+    n: usize,
+    timing: bool,
+    sat: u8,
+    bits: &[u8],
+    added: u8,
+) -> u32
+    requires { ⌜ (d ≤ 255) × ((n ≤ 36) × ((roomSize d n ≤ length (now room)) × (length (now bits) ≡ dataBytes (familyIf timing)))) ⌝ }
+    ensures { λ r. ⌜ (now (room .exit) ≡ onParts (eachRecord (familyIf timing) n (credited (familyIf timing) sat (now (bits .entry)) added)) (rowSize n) d 8 (now (room .entry))) × (r ≡ sumParts (howMany (familyIf timing) n (matches (familyIf timing) sat (now (bits .entry)))) (rowSize n) d 8 (now (room .entry))) ⌝ }
+{
+    let width = 8 + n * 100;
+    let mut total: u32 = 0;
+    let mut at: usize = 8;
+    let mut left = d;
+    while left > 0 {
+        let e = at + width;
+        total += credit_row(&mut room[at..e], n, timing, sat, bits, added);
+        at = e;
+        left -= 1;
+    }
+    total
+}
