@@ -1,0 +1,207 @@
+// "Not a store", refusal 3 of document 01: whether the bytes of a room are one. Every test stops at its first fault, and of a record
+// it reads the satellite, the count where there is no satellite, and the last byte.
+ghost use mathlib.Core.Path.{_≡_};
+ghost use mathlib.Core.Bool.{_&&_};
+ghost use Prim.Native.Nat.{_≤_, _<_};
+ghost use lib.Dec.{leb};
+ghost use lib.ListN.{length};
+ghost use Rattle.paper.specs.Parts.{allParts};
+ghost use Rattle.paper.specs.Record.{Family, size};
+ghost use Rattle.paper.specs.Room.{slotSize, rowSize, roomSize};
+ghost use Rattle.paper.specs.Store.{sizesAllowed, headerInRange, headerZeros, recordAllowed, slotAllowed, markAllowed, subframeAllowed, blankAllowed, rowAllowed, isStore};
+use layout::HEADER;
+use layout::MOST_ROWS;
+use layout::MOST_SATELLITES;
+use layout::MOST_SLOTS;
+use layout::ROW_HEAD;
+use layout::SLOT;
+use layout::TIMING_AT;
+
+// "a multiple of 30 up to 604770"
+const SUBFRAME_SECONDS: u32 = 30;
+
+const LAST_SUBFRAME: u32 = 604770;
+
+fn wide(x: u8) -> usize
+    ensures { λ r. ⌜ (r ≡ x) × (r < 256) ⌝ }
+{
+    x as usize
+}
+
+// "D or N outside its range": whether neither is. The test of a fresh store too.
+pub fn sizes_allowed(d: u8, n: u8) -> bool
+    ensures { λ r. ⌜ r ≡ sizesAllowed d n ⌝ }
+{
+    if d < 1 {
+        return false;
+    }
+    if d > MOST_ROWS {
+        return false;
+    }
+    if n < 1 {
+        return false;
+    }
+    n <= MOST_SLOTS
+}
+
+fn header_in_range(room: &[u8]) -> bool
+    requires { ⌜ 8 ≤ length (now room) ⌝ }
+    ensures { λ r. ⌜ r ≡ headerInRange (now (room .entry)) ⌝ }
+{
+    if !sizes_allowed(room[0], room[1]) {
+        return false;
+    }
+    room[2] < room[0]
+}
+
+fn header_zeros(room: &[u8]) -> bool
+    requires { ⌜ 8 ≤ length (now room) ⌝ }
+    ensures { λ r. ⌜ r ≡ headerZeros (now (room .entry)) ⌝ }
+{
+    if room[3] != 0 {
+        return false;
+    }
+    numbers::read32(room, 4) == 0
+}
+
+fn known(satellite: u8, most: u8) -> bool
+    ensures { λ r. ⌜ r ≡ (leb 1 satellite && leb satellite most) ⌝ }
+{
+    if satellite < 1 {
+        return false;
+    }
+    satellite <= most
+}
+
+// For the family whose length the record has. A known satellite comes first: it needs no look at the count.
+fn record_allowed(record: &[u8], most: u8) -> bool
+    requires { ⌜ 4 ≤ length (now «record») ⌝ }
+    ensures { λ r. ⌜ ((f : Family) → size f ≡ length (now («record» .entry)) → r ≡ recordAllowed f most (now («record» .entry))) ⌝ }
+{
+    if !known(record[0], most) {
+        if record[0] != 0 {
+            return false;
+        }
+        if numbers::read16(record, 1) != 0 {
+            return false;
+        }
+    }
+    record[record.len() - 1] % 8 == 0
+}
+
+fn slot_allowed(slot: &[u8], most: u8) -> bool
+    requires { ⌜ length (now slot) ≡ slotSize ⌝ }
+    ensures { λ r. ⌜ r ≡ slotAllowed most (now (slot .entry)) ⌝ }
+{
+    if !record_allowed(&slot[0..TIMING_AT], most) {
+        return false;
+    }
+    record_allowed(&slot[TIMING_AT..SLOT], most)
+}
+
+fn slots_allowed(row: &[u8], n: usize, most: u8) -> bool
+    requires { ⌜ rowSize n ≤ length (now row) ⌝ }
+    ensures { λ r. ⌜ r ≡ allParts (slotAllowed most) slotSize n 8 (now (row .entry)) ⌝ }
+{
+    let mut at = ROW_HEAD;
+    let mut left = n;
+    while left > 0 {
+        let e = at + SLOT;
+        if !slot_allowed(&row[at..e], most) {
+            return false;
+        }
+        at = e;
+        left -= 1;
+    }
+    true
+}
+
+fn mark_allowed(row: &[u8]) -> bool
+    requires { ⌜ 8 ≤ length (now row) ⌝ }
+    ensures { λ r. ⌜ r ≡ markAllowed (now (row .entry)) ⌝ }
+{
+    if row[0] > 1 {
+        return false;
+    }
+    row[7] == 0
+}
+
+fn blank_allowed(row: &[u8]) -> bool
+    requires { ⌜ 8 ≤ length (now row) ⌝ }
+    ensures { λ r. ⌜ r ≡ blankAllowed (now (row .entry)) ⌝ }
+{
+    if numbers::read16(row, 1) != 0 {
+        return false;
+    }
+    numbers::read32(row, 3) == 0
+}
+
+fn subframe_allowed(row: &[u8]) -> bool
+    requires { ⌜ 8 ≤ length (now row) ⌝ }
+    ensures { λ r. ⌜ r ≡ subframeAllowed (now (row .entry)) ⌝ }
+{
+    let time = numbers::read32(row, 3);
+    if time > LAST_SUBFRAME {
+        return false;
+    }
+    time % SUBFRAME_SECONDS == 0
+}
+
+// In a blank row any satellite is one too many.
+fn row_allowed(row: &[u8], n: usize) -> bool
+    requires { ⌜ rowSize n ≤ length (now row) ⌝ }
+    ensures { λ r. ⌜ r ≡ rowAllowed n (now (row .entry)) ⌝ }
+{
+    if !mark_allowed(row) {
+        return false;
+    }
+    if row[0] == 0 {
+        if !blank_allowed(row) {
+            return false;
+        }
+        return slots_allowed(row, n, 0);
+    }
+    if !subframe_allowed(row) {
+        return false;
+    }
+    slots_allowed(row, n, MOST_SATELLITES)
+}
+
+fn rows_allowed(room: &[u8], d: usize, n: usize) -> bool
+    requires { ⌜ (n < 256) × (roomSize d n ≤ length (now room)) ⌝ }
+    ensures { λ r. ⌜ r ≡ allParts (rowAllowed n) (rowSize n) d 8 (now (room .entry)) ⌝ }
+{
+    let row = ROW_HEAD + n * SLOT;
+    let mut at = HEADER;
+    let mut left = d;
+    while left > 0 {
+        let e = at + row;
+        if !row_allowed(&room[at..e], n) {
+            return false;
+        }
+        at = e;
+        left -= 1;
+    }
+    true
+}
+
+// Whether the room is a store.
+pub fn is_store(room: &[u8]) -> bool
+    ensures { λ r. ⌜ r ≡ isStore (now (room .entry)) ⌝ }
+{
+    if room.len() < HEADER {
+        return false;
+    }
+    if !header_in_range(room) {
+        return false;
+    }
+    if !header_zeros(room) {
+        return false;
+    }
+    let d = wide(room[0]);
+    let n = wide(room[1]);
+    if room.len() < HEADER + d * (ROW_HEAD + n * SLOT) {
+        return false;
+    }
+    rows_allowed(room, d, n)
+}
