@@ -1,0 +1,31 @@
+-- The paper's number for each refusal, and its answer for each reply.
+use Prim.Native.Nat.{ℕ}
+use mathlib.Core.List.{[]}
+use Rattle.paper.specs.Number.{Answer, done, refused}
+use Rattle.refusals.specs.declared.Refusal.{Refusal}
+use Rattle.refusals.specs.declared.Refusal.the-variants.{Sizes, TooShort, NotAStore, NoSatellite, NoTime, NotAStart, OutOfTime, NotAllowed, Unknown, NoCandidate, OtherData, NotEnough, Dummy, VerdictNo, StatusAddsNothing}
+use Rattle.refusals.specs.declared.Reply.{Reply}
+use Rattle.refusals.specs.declared.Reply.the-variants.{Done, Refused}
+
+-- the table of "Numbers handed back"
+abbrev pub numberOf : Refusal → ℕ
+numberOf Sizes = 1
+numberOf TooShort = 2
+numberOf NotAStore = 3
+numberOf NoSatellite = 4
+numberOf NoTime = 5
+numberOf NotAStart = 6
+numberOf OutOfTime = 7
+numberOf NotAllowed = 8
+numberOf Unknown = 9
+numberOf NoCandidate = 10
+numberOf OtherData = 11
+numberOf NotEnough = 12
+numberOf Dummy = 16
+numberOf VerdictNo = 17
+numberOf StatusAddsNothing = 18
+
+-- the paper's answer: 0 with no values, or the refusal's number
+abbrev pub answerOf : Reply → Answer
+answerOf Done = done []
+answerOf (Refused why) = refused (numberOf why)

@@ -1,0 +1,67 @@
+// "Numbers handed back": why a call refuses, and the reply of a call that has no values beside its number.
+ghost use mathlib.Core.Path.{_≡_};
+ghost use Prim.Native.Nat.{_<_};
+ghost use Rattle.refusals.specs.Reply.{numberOf};
+
+// The refusals of the calls; each has its number in the table of document 01.
+pub enum Refusal {
+    // 1: D or N outside its range
+    Sizes,
+    // 2: room too short for a fresh store
+    TooShort,
+    // 3: not a store
+    NotAStore,
+    // 4: satellite not 1 to 36
+    NoSatellite,
+    // 5: time of week above 604799
+    NoTime,
+    // 6: MACK time not a subframe start
+    NotAStart,
+    // 7: time arithmetic refused
+    OutOfTime,
+    // 8: word not 16 bytes; COP or tag length not allowed
+    NotAllowed,
+    // 9: band, kind or status unknown
+    Unknown,
+    // 10: no candidate
+    NoCandidate,
+    // 11: given data of another length, or different from the candidate
+    OtherData,
+    // 12: no record of the satellite has 40
+    NotEnough,
+    // 16: COP 0, nothing added
+    Dummy,
+    // 17: verdict no
+    VerdictNo,
+    // 18: status 0 or 3, nothing added
+    StatusAddsNothing,
+}
+
+// The reply of a call that has no values beside its number.
+pub enum Reply {
+    Done,
+    Refused(Refusal),
+}
+
+// The number of a refusal in the table.
+pub fn number(why: Refusal) -> u8
+    ensures { λ r. ⌜ r ≡ numberOf why ⌝ }
+{
+    match why {
+        Refusal::Sizes => 1,
+        Refusal::TooShort => 2,
+        Refusal::NotAStore => 3,
+        Refusal::NoSatellite => 4,
+        Refusal::NoTime => 5,
+        Refusal::NotAStart => 6,
+        Refusal::OutOfTime => 7,
+        Refusal::NotAllowed => 8,
+        Refusal::Unknown => 9,
+        Refusal::NoCandidate => 10,
+        Refusal::OtherData => 11,
+        Refusal::NotEnough => 12,
+        Refusal::Dummy => 16,
+        Refusal::VerdictNo => 17,
+        Refusal::StatusAddsNothing => 18,
+    }
+}
