@@ -2,3 +2,4 @@
 pub mod Shifts
 pub mod OneByte
 pub mod InTurn
+pub mod Determined

@@ -6,7 +6,7 @@ use Prim.Native.Nat.{ℕ, suc, _+_, _-_, _*_, _/_, _%_, _^_, _<_, _≤_}
 use native.Mathlib.Omega.{arith}
 use native.Mathlib.Decide.{decLt, ℕ-discrete}
 use native.Mathlib.Nat.{mod-lt}
-use borrow.Author.Tests.{eqb-true, eqb-false, eq-eqb, ne-eqb}
+use borrow.Author.Tests.{eqb-true, eqb-false}
 use lib.Dec.{eqb}
 use lib.ListN.{length, getD, set, length-set}
 use lib.Seq.{set-getD, getD-set-same, getD-set-other}
@@ -116,14 +116,15 @@ module _ (d : List ℕ) (to : ℕ) (w : List ℕ) (from k : ℕ) (one : 1 ≤ k)
           sym (getD-set-same d (to / 8) x 0 here) ∙ ap (λ (y : List ℕ). getD y (to / 8) 0) (sym one-byte ∙ changed-not d to w from k f) in
           absurd (eqb-false _ _ e same)
 
-  -- what the code finds: the byte is the same, or another
-  pub one-kept : (y : ℕ) (hit : Bool) → y ≡ newByte d to w from k → y ≡ getD d (to / 8) 0
-      → (set d (to / 8) y ≡ moved d to w from k) × (hit ≡ cond (changed d to w from k) true hit)
-  one-kept y hit e f = (rw (e, one-byte), rw (one-changed, eq-eqb _ _ (sym e ∙ f)))
-
-  pub one-turned : (y : ℕ) (hit : Bool) → y ≡ newByte d to w from k → (y ≡ getD d (to / 8) 0 → ⊥)
-      → (set d (to / 8) y ≡ moved d to w from k) × (true ≡ cond (changed d to w from k) true hit)
-  one-turned y hit e f = (rw (e, one-byte), rw (one-changed, ne-eqb _ _ (λ g. f (e ∙ g))))
+  -- what the code leaves: the byte set, and the flag by whether the byte is another
+  pub one-put : (y : ℕ) (l : List ℕ) (hit hit′ : Bool) → y ≡ newByte d to w from k
+      → l ≡ set d (to / 8) y → hit′ ≡ cond (eqb y (getD d (to / 8) 0)) hit true
+      → (l ≡ moved d to w from k) × (hit′ ≡ cond (changed d to w from k) true hit)
+  one-put y l hit hit′ e f g = (f ∙ rw (e, one-byte), g ∙ rw (e, one-changed) (turn (eqb (newByte d to w from k) (getD d (to / 8) 0))))
+    where
+      turn : (c : Bool) → cond c hit true ≡ cond (cond c false true) true hit
+      turn true = refl
+      turn false = refl
 
 -- ---- a whole byte
 module _ (d : List ℕ) (i : ℕ) (w : List ℕ) (from : ℕ) (here : i < length d) (bytes : Bytes d) (bytes-w : Bytes w) where
@@ -136,15 +137,11 @@ module _ (d : List ℕ) (i : ℕ) (w : List ℕ) (from : ℕ) (here : i < length
   whole : newByte d (8 * i) w from 8 ≡ fieldOf w from 8
   whole = rw (at-i, aligned) (omega (arith, bytes i))
 
-  pub whole-kept : (y : ℕ) (hit : Bool) → y ≡ fieldOf w from 8 → y ≡ getD d i 0
-      → (set d i y ≡ moved d (8 * i) w from 8) × (hit ≡ cond (changed d (8 * i) w from 8) true hit)
-  whole-kept y hit e f =
-      rw at-i at (one-kept d (8 * i) w from 8 (omega arith) (omega arith) (omega arith) bytes bytes-w y hit (e ∙ sym whole) (rw at-i f))
-
-  pub whole-turned : (y : ℕ) (hit : Bool) → y ≡ fieldOf w from 8 → (y ≡ getD d i 0 → ⊥)
-      → (set d i y ≡ moved d (8 * i) w from 8) × (true ≡ cond (changed d (8 * i) w from 8) true hit)
-  whole-turned y hit e f =
-      rw at-i at (one-turned d (8 * i) w from 8 (omega arith) (omega arith) (omega arith) bytes bytes-w y hit (e ∙ sym whole) (rw at-i f))
+  pub whole-put : (y : ℕ) (l : List ℕ) (hit hit′ : Bool) → y ≡ fieldOf w from 8
+      → l ≡ set d i y → hit′ ≡ cond (eqb y (getD d i 0)) hit true
+      → (l ≡ moved d (8 * i) w from 8) × (hit′ ≡ cond (changed d (8 * i) w from 8) true hit)
+  whole-put y l hit hit′ e f g =
+      one-put d (8 * i) w from 8 (omega arith) (omega arith) (omega arith) bytes bytes-w y l hit hit′ (e ∙ sym whole) (rw at-i f) (rw at-i g)
 
 -- the eight bits from bit 8 j + r on, as the code reads them
 pub whole-field : (w : List ℕ) (j r : ℕ) → r < 8

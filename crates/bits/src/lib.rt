@@ -3,7 +3,8 @@
 ghost use mathlib.Core.Path.{_≡_};
 ghost use mathlib.Core.Bool.{true, cond};
 ghost use Prim.Native.Nat.{_+_, _-_, _*_, _/_, _%_, _^_, _≤_, _<_, min};
-ghost use lib.ListN.{length, getD};
+ghost use lib.Dec.{eqb};
+ghost use lib.ListN.{length, getD, set};
 ghost use Rattle.paper.specs.Bits.{bitAt, putBit, moved, changed};
 ghost use Rattle.paper.proofs.Digits.{spliced};
 ghost use Rattle.bits.specs.Field.{fieldOf};
@@ -24,6 +25,7 @@ fn joined(b: u32, s: usize, k: usize, v: u32) -> u8
     (high + low) as u8
 }
 
+// Bit i of s, 0 or 1.
 pub fn read_bit(s: &[u8], i: usize) -> u8
     requires { ⌜ i / 8 < length (now s) ⌝ }
     ensures { λ r. ⌜ (r ≡ bitAt (now (s .entry)) i) × (r < 2) ⌝ }
@@ -31,6 +33,7 @@ pub fn read_bit(s: &[u8], i: usize) -> u8
     (s[i / 8] >> (7 - i % 8)) % 2
 }
 
+// s with bit i made v, which is 0 or 1.
 pub fn write_bit(s: &mut [u8], i: usize, v: u8)
     requires { ⌜ (i / 8 < length (now s)) × (v < 2) ⌝ }
     ensures { λ _. ⌜ now (s .exit) ≡ putBit (now (s .entry)) i v ⌝ }
@@ -58,7 +61,17 @@ fn field(w: &[u8], p: usize, k: usize) -> u32
     ((a * 256 + b) >> (16 - (p % 8 + k))) % (1u32 << k)
 }
 
-// A move within one byte of d. `hit`, here and below, says whether something changed before.
+// Byte i made y. `hit`, here and below, says whether something changed before; whether something changed by now comes back.
+fn put_byte(d: &mut [u8], i: usize, y: u8, hit: bool) -> bool
+    requires { ⌜ i < length (now d) ⌝ }
+    ensures { λ r. ⌜ (now (d .exit) ≡ set (now (d .entry)) i y) × (r ≡ cond (eqb y (getD (now (d .entry)) i 0)) hit true) ⌝ }
+{
+    let old = d[i];
+    d[i] = y;
+    if y == old { hit } else { true }
+}
+
+// A move within one byte of d.
 fn move_field(d: &mut [u8], to: usize, w: &[u8], from: usize, k: usize, hit: bool) -> bool
     requires { ⌜ (1 ≤ k) × (to % 8 + k ≤ 8) × (to / 8 < length (now d)) × (from / 8 < length (now w)) ⌝ }
     ensures { λ r. ⌜ (now (d .exit) ≡ moved (now (d .entry)) to (now (w .entry)) from k)
@@ -66,13 +79,8 @@ fn move_field(d: &mut [u8], to: usize, w: &[u8], from: usize, k: usize, hit: boo
 {
     let v = field(w, from, k);
     let j = to / 8;
-    let b = d[j];
-    let y = joined(wide(b), 8 - (to % 8 + k), k, v);
-    d[j] = y;
-    if y == b {
-        return hit;
-    }
-    true
+    let y = joined(wide(d[j]), 8 - (to % 8 + k), k, v);
+    put_byte(d, j, y, hit)
 }
 
 // A move to the whole byte i of d, from bit r of byte j of w on.
@@ -84,12 +92,7 @@ fn move_byte(d: &mut [u8], i: usize, w: &[u8], j: usize, r: usize, hit: bool) ->
     let a = wide(w[j]);
     let b = wide(w[j + 1]);
     let y = (((a * 256 + b) >> (8 - r)) % 256) as u8;
-    let old = d[i];
-    d[i] = y;
-    if y == old {
-        return hit;
-    }
-    true
+    put_byte(d, i, y, hit)
 }
 
 // A move to whole bytes of d, from byte i on. Behind the last of its bits w has one more, so that two bytes can always be read.
@@ -117,7 +120,8 @@ fn run(i: usize, left: usize) -> usize
     if here < left { here } else { left }
 }
 
-// The bits up to the end of a byte of d, whole bytes, and the one to eight bits that remain. Whether a bit was another comes back.
+// d with its bits from `to` on made those of w from `from` on, `size` of them; whether one was another comes back. First go the bits up to
+// the end of a byte of d, then whole bytes, then the one to eight bits that remain.
 pub fn move_bits(d: &mut [u8], to: usize, w: &[u8], from: usize, size: usize) -> bool
     requires { ⌜ (to + size ≤ 8 * length (now d)) × (from + size ≤ 8 * length (now w)) × (to + size < 2 ^ 64) × (from + size < 2 ^ 64) ⌝ }
     ensures { λ r. ⌜ (now (d .exit) ≡ moved (now (d .entry)) to (now (w .entry)) from size)

@@ -7,7 +7,7 @@ use Rattle.bits.proofs.byte_or_zero.Statement.{statement}
 use Rattle.bits.proofs.byte_or_zero.Tie as tie
 
 shared-slice-read-wide : tie.Need-shared-slice-read-wide
-shared-slice-read-wide c = search needs
+shared-slice-read-wide c = omega arith
 
 wide-requires : tie.Need-wide-requires
 wide-requires c κs = search needs

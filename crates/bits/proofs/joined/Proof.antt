@@ -6,34 +6,34 @@ use Rattle.bits.proofs.joined.Statement.{statement}
 use Rattle.bits.proofs.joined.Tie as tie
 
 add-high : tie.Need-add-high
-add-high c = search needs
+add-high c = omega arith
 
 cast-high : tie.Need-cast-high
-cast-high c = search needs
+cast-high c = omega arith
 
 shr-high : tie.Need-shr-high
-shr-high c = search needs
+shr-high c = omega arith
 
 add-high-2 : tie.Need-add-high-2
-add-high-2 c = search needs
+add-high-2 c = omega arith
 
 cast-high-2 : tie.Need-cast-high-2
-cast-high-2 c = search needs
+cast-high-2 c = omega arith
 
 shl-high : tie.Need-shl-high
-shl-high c = search needs
+shl-high c = omega arith
 
 cast-low : tie.Need-cast-low
-cast-low c = search needs
+cast-low c = omega arith
 
 shl-low : tie.Need-shl-low
-shl-low c = search needs
+shl-low c = omega arith
 
 cast-low-2 : tie.Need-cast-low-2
-cast-low-2 c = search needs
+cast-low-2 c = omega arith
 
 shl-low-2 : tie.Need-shl-low-2
-shl-low-2 c = search needs
+shl-low-2 c = omega arith
 
 rem-low : tie.Need-rem-low
 rem-low c = one-shl-pos (c .args .s) (omega arith)

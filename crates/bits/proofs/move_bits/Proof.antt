@@ -3,7 +3,6 @@ use mathlib.Core.Path.{refl, _∙_}
 use Prim.Native.Nat.{_+_, _-_, _*_, _/_}
 use native.Mathlib.Omega.{arith}
 use Rattle.bits.proofs.InTurn.{no-bits, one-move, three-moves, first-ends, rest-fits}
-use borrow.Author.Needs.{needs}
 use Rattle.bits.proofs.move_bits.Statement.{statement}
 use Rattle.bits.proofs.move_bits.Tie as tie
 
@@ -13,13 +12,13 @@ returns c =
     no-bits (a .d .now) (a .to) (a .w .now) (a .from) (a .size) (c .if1 .taken)
 
 run-requires : tie.Need-run-requires
-run-requires c κs = search needs
+run-requires c κs = tt
 
 move-field-requires : tie.Need-move-field-requires
-move-field-requires c κs = search needs
+move-field-requires c κs = omega arith
 
 same-length : tie.Need-same-length
-same-length c = search needs
+same-length c = omega arith
 
 returns-2 : tie.Need-returns-2
 returns-2 c =
@@ -28,34 +27,34 @@ returns-2 c =
     one-move (a .d .now) (a .to) (a .w .now) (a .from) (a .size) (c .before .before .before .before .before .run .result) (m .last .0) (m .result) (c .if2 .taken) (m .ensures .0) (m .ensures .1)
 
 sub-count : tie.Need-sub-count
-sub-count c = search needs
+sub-count c = omega arith
 
 sub-count-2 : tie.Need-sub-count-2
-sub-count-2 c = search needs
+sub-count-2 c = omega arith
 
 add-move-bytes : tie.Need-add-move-bytes
-add-move-bytes c = search needs
+add-move-bytes c = omega arith
 
 add-move-bytes-2 : tie.Need-add-move-bytes-2
-add-move-bytes-2 c = search needs
+add-move-bytes-2 c = omega arith
 
 move-bytes-requires : tie.Need-move-bytes-requires
-move-bytes-requires c κs = search needs
+move-bytes-requires c κs = omega arith
 
 mul-n : tie.Need-mul-n
-mul-n c = search needs
+mul-n c = omega arith
 
 add-n : tie.Need-add-n
-add-n c = search needs
+add-n c = omega arith
 
 add-move-field : tie.Need-add-move-field
-add-move-field c = search needs
+add-move-field c = omega arith
 
 add-move-field-2 : tie.Need-add-move-field-2
-add-move-field-2 c = search needs
+add-move-field-2 c = omega arith
 
 sub-move-field : tie.Need-sub-move-field
-sub-move-field c = search needs
+sub-move-field c = omega arith
 
 move-field-requires-2 : tie.Need-move-field-requires-2
 move-field-requires-2 c κs =
@@ -66,7 +65,7 @@ move-field-requires-2 c κs =
     rest-fits (s .args .to) (s .args .from) (s .args .size) k ((s .args .to + k) / 8) _ _ (ends .0) (ends .1) (rw same (s .pre .0)) (s .pre .1) _ refl
 
 same-length-2 : tie.Need-same-length-2
-same-length-2 c = search needs
+same-length-2 c = omega arith
 
 returns-3 : tie.Need-returns-3
 returns-3 c =

@@ -1,6 +1,6 @@
 -- `move_byte` is right: the eight bits are cut out of two bytes, and a move to a whole byte sets it to them.
 use Prim.Native.Nat.{_+_, _*_}
-use Rattle.bits.proofs.OneByte.{whole-kept, whole-turned, whole-field}
+use Rattle.bits.proofs.OneByte.{whole-put, whole-field}
 use borrow.Author.Needs.{needs}
 use Rattle.bits.proofs.move_byte.Statement.{statement}
 use Rattle.bits.proofs.move_byte.Tie as tie
@@ -38,31 +38,19 @@ shr-y c = search needs
 cast-y-2 : tie.Need-cast-y-2
 cast-y-2 c = search needs
 
-slice-read-old : tie.Need-slice-read-old
-slice-read-old c = search needs
-
-slice-write-d : tie.Need-slice-write-d
-slice-write-d c = search needs
+put-byte-requires : tie.Need-put-byte-requires
+put-byte-requires c κs = search needs
 
 same-length : tie.Need-same-length
 same-length c = search needs
 
 returns : tie.Need-returns
 returns c =
-    let a = c .before .before .before .before .before .before .before .before .args in
-    let p = c .before .before .before .before .before .before .before .before .pre in
-    whole-kept (a .d .now) (a .i) (a .w .now) (8 * a .j + a .r) (p .0) (λ i. c .before .before .before .before .before .before .before .slice-known .given i .fits) (λ i. c .before .before .before .before .before .before .shared-slice-known .given i .fits) _ (a .hit)
-    (rw (c .before .before .before .before .wide .ensures .0, c .before .before .wide2 .ensures .0) (whole-field (a .w .now) (a .j) (a .r) (p .2))) (c .if1 .taken)
-
-same-length-2 : tie.Need-same-length-2
-same-length-2 c = search needs
-
-returns-2 : tie.Need-returns-2
-returns-2 c =
-    let a = c .before .before .before .before .before .before .before .before .args in
-    let p = c .before .before .before .before .before .before .before .before .pre in
-    whole-turned (a .d .now) (a .i) (a .w .now) (8 * a .j + a .r) (p .0) (λ i. c .before .before .before .before .before .before .before .slice-known .given i .fits) (λ i. c .before .before .before .before .before .before .shared-slice-known .given i .fits) _ (a .hit)
-    (rw (c .before .before .before .before .wide .ensures .0, c .before .before .wide2 .ensures .0) (whole-field (a .w .now) (a .j) (a .r) (p .2))) (c .if1 .left)
+    let s = c .before .before .before .before .before .before .before .before .before .before in
+    let a = s .args in
+    let p = c .before .before .put-byte in
+    whole-put (a .d .now) (a .i) (a .w .now) (8 * a .j + a .r) (s .pre .0) (λ i. c .before .before .before .before .before .before .before .before .before .slice-known .given i .fits) (λ i. c .before .before .before .before .before .before .before .before .shared-slice-known .given i .fits) _ (p .last .0) (a .hit) (p .result)
+    (rw (c .before .before .before .before .before .before .wide .ensures .0, c .before .before .before .before .wide2 .ensures .0) (whole-field (a .w .now) (a .j) (a .r) (s .pre .2))) (p .ensures .0) (p .ensures .1)
 
 pub move-byte-spec : {M : Type 1} → statement M
 move-byte-spec =
@@ -79,9 +67,6 @@ move-byte-spec =
     cast-y
     shr-y
     cast-y-2
-    slice-read-old
-    slice-write-d
+    put-byte-requires
     same-length
-    returns
-    same-length-2
-    returns-2)
+    returns)

@@ -1,4 +1,5 @@
 -- `write_bit` is right: a bit written is the splice of one bit.
+use native.Mathlib.Omega.{arith}
 use mathlib.Core.Path.{sym}
 use Rattle.paper.proofs.Bits.{put-byte}
 use borrow.Author.Needs.{needs}
@@ -6,13 +7,13 @@ use Rattle.bits.proofs.write_bit.Statement.{statement}
 use Rattle.bits.proofs.write_bit.Tie as tie
 
 slice-read-wide : tie.Need-slice-read-wide
-slice-read-wide c = search needs
+slice-read-wide c = omega arith
 
 wide-requires : tie.Need-wide-requires
 wide-requires c κs = search needs
 
 sub-joined : tie.Need-sub-joined
-sub-joined c = search needs
+sub-joined c = omega arith
 
 wide-requires-2 : tie.Need-wide-requires-2
 wide-requires-2 c κs = search needs
@@ -21,7 +22,7 @@ joined-requires : tie.Need-joined-requires
 joined-requires c κs = search needs
 
 slice-write-s : tie.Need-slice-write-s
-slice-write-s c = search needs
+slice-write-s c = omega arith
 
 same-length : tie.Need-same-length
 same-length c = search needs
