@@ -50,8 +50,7 @@ put-other s i v j l n = rw (put-byte s i v) (go (ℕ-discrete (j / 8) (i / 8)) (
 -- writing what stands there changes nothing
 pub put-nothing : (s : List ℕ) (i v : ℕ) → v ≡ bitAt s i → putBit s i v ≡ s
 unfolding putBit
-put-nothing s i v e =
-    ap (set s (i / 8)) (rw e (omega arith)) ∙ set-getD s (i / 8) 0
+put-nothing s i v e = ap (set s (i / 8)) (rw e (omega arith)) ∙ set-getD s (i / 8) 0
 
 pub length-put : (s : List ℕ) (i v : ℕ) → length (putBit s i v) ≡ length s
 unfolding putBit
@@ -62,15 +61,19 @@ bytes-put s i v l b =
     subst Bytes (sym (put-byte s i v))
     (bytes-set s (i / 8) (spliced (7 - i % 8) 1 (getD s (i / 8) 0) v) b (spliced-lt (7 - i % 8) 1 (getD s (i / 8) 0) v l 8 (omega arith) (b (i / 8))))
 
+-- the digits of a byte are its bits, the last bit first
+pub byte-digit : (s : List ℕ) (i t : ℕ) → t < 8 → getD s i 0 / 2 ^ t % 2 ≡ bitAt s (8 * i + (7 - t))
+byte-digit s i t h =
+    let q : (8 * i + (7 - t)) / 8 ≡ i = omega arith in
+    let r : 7 - (8 * i + (7 - t)) % 8 ≡ t = omega arith in
+    rw (q, r)
+
 -- two lists of bytes of one length with the same bits are equal
 pub same-bits : (a b : List ℕ) → length a ≡ length b → Bytes a → Bytes b → ((j : ℕ) → j < 8 * length a → bitAt a j ≡ bitAt b j) → a ≡ b
-same-bits a b l ba bb e = ext-getD 0 a b l (λ i h. same-digits 8 (getD a i 0) (getD b i 0) (ba i) (bb i) (λ t g. digit i t h g))
-  where
-    digit : (i t : ℕ) → i < length a → t < 8 → getD a i 0 / 2 ^ t % 2 ≡ getD b i 0 / 2 ^ t % 2
-    digit i t h g =
-        let q : (8 * i + (7 - t)) / 8 ≡ i = omega arith in
-        let r : 7 - (8 * i + (7 - t)) % 8 ≡ t = omega arith in
-        rw (q, r) at (e (8 * i + (7 - t)) (omega arith))
+same-bits a b l ba bb e =
+    ext-getD 0 a b l
+    (λ i h. same-digits 8 (getD a i 0) (getD b i 0) (ba i) (bb i)
+    (λ t g. byte-digit a i t g ∙ e (8 * i + (7 - t)) (omega arith) ∙ sym (byte-digit b i t g)))
 
 -- ---- a move
 module _ (d : List ℕ) (to : ℕ) (w : List ℕ) (from : ℕ) where
@@ -175,6 +178,6 @@ module _ (d : List ℕ) (to : ℕ) (w : List ℕ) (from : ℕ) where
     where
       digit : (t : ℕ) → t < 3 → getD (moved d to w from n) (length d - 1) 0 / 2 ^ t % 2 ≡ getD d (length d - 1) 0 / 2 ^ t % 2
       digit t g =
-          let q : (8 * (length d - 1) + (7 - t)) / 8 ≡ length d - 1 = omega arith in
-          let r : 7 - (8 * (length d - 1) + (7 - t)) % 8 ≡ t = omega arith in
-          rw (q, r) at (moved-after n (8 * (length d - 1) + (7 - t)) (omega arith))
+          byte-digit (moved d to w from n) (length d - 1) t (omega arith)
+          ∙ moved-after n (8 * (length d - 1) + (7 - t)) (omega arith)
+          ∙ sym (byte-digit d (length d - 1) t (omega arith))
