@@ -1,0 +1,75 @@
+-- What the ring's functions lean on: the records of two rows lie apart as the rows do, a row aged in one pass, the test that the
+-- ring moves, of a row that was lent, and the ring's steps in the code's order. Assumes nothing.
+use native.Mathlib.Omega.{arith}
+use mathlib.Core.Path.{_≡_, _∙_}
+use mathlib.Core.Bool.{Bool, true, false, cond, not}
+use mathlib.Core.List.{List, _++_, map}
+use mathlib.Core.Logic.{_⊎_, ⊎-elim, inl, inr}
+use Prim.Native.Nat.{ℕ, _+_, _*_, _-_, _≤_}
+use borrow.Author.Tests.{eq-eqb, ne-eqb}
+use lib.ListN.{length, getD, set, take, drop}
+use Rattle.paper.specs.Parts.{onPart, onParts}
+use Rattle.paper.specs.Record.{Family, CED, Timing, ages, size, agesOf, older, aged}
+use Rattle.paper.specs.Room.{slotSize, base, rowSize, depth, slots, current, rowAt, rowOf, isAt, inSlot, eachRecord}
+use Rattle.paper.specs.Feed.{nextRow, moves, copied, agedRow, advanced}
+use Rattle.paper.proofs.Parts.{Keeps, onPart-by, onPart-length, part-back-at}
+use Rattle.paper.proofs.Views.{Facts, slot-fits, row-inside}
+use Rattle.paper.proofs.Lengths.{keeps-aged}
+use Rattle.paper.proofs.WordViews.{nextRow-lt, advanced-facts}
+use Rattle.rows.proofs.Where.{next-apart}
+use Rattle.ring.specs.Slot.{agedSlot}
+use Rattle.ring.proofs.Passes.{onParts-twice}
+
+pub records-apart : (n from to : ℕ) → (to ≤ from) ⊎ (from + rowSize n ≤ to) → (to + 8 ≤ from + 8) ⊎ (from + 8 + n * slotSize ≤ to + 8)
+records-apart n from to d = ⊎-elim (λ h. inl (omega arith)) (λ h. inr (omega arith)) d
+
+-- ages that are put back, each so much more
+pub aged-by : (f : Family) (by : ℕ) (rec new : List ℕ) → new ≡ map (older by) (agesOf f rec) → onPart (λ _. new) 3 (ages f) rec ≡ aged f by rec
+unfolding aged
+aged-by f by rec new e = onPart-by (λ _. new) (map (older by)) 3 (ages f) rec e
+
+keeps-inSlot : (f : Family) (by : ℕ) → Keeps (inSlot f (aged f by)) slotSize
+keeps-inSlot f by slot e = onPart-length (aged f by) (size f) (keeps-aged f by) (base f) slot (omega (arith, slot-fits f)) ∙ e
+
+pub aged-once : (n : ℕ) (row : List ℕ) → rowSize n ≤ length row → agedRow n row ≡ onParts (agedSlot 1) slotSize n 8 row
+unfolding agedRow eachRecord
+aged-once n row h =
+    onParts-twice (inSlot Timing (aged Timing 1)) (inSlot CED (aged CED 1)) slotSize (keeps-inSlot Timing 1) (keeps-inSlot CED 1) n 8 row h
+
+module _ (w t : ℕ) (room row : List ℕ) (e : row ≡ rowOf (current room) room) where
+  pub moves-blank : (getD row 0 0 ≡ 1 → ⊥) → false ≡ moves w t room
+  unfolding moves
+  moves-blank h = rw (← e) (simp (ne-eqb (getD row 0 0) 1 h))
+
+  pub moves-marked : (b : Bool) → getD row 0 0 ≡ 1 → b ≡ isAt w t row → not b ≡ moves w t room
+  unfolding moves
+  moves-marked b h g = rw (← e, ← g) (simp (eq-eqb (getD row 0 0) 1 h))
+
+-- the code's steps, each by what its callee ensures
+module _ (room : List ℕ) (d n c next from to : ℕ) (ed : d ≡ depth room) (en : n ≡ slots room) (ec : c ≡ current room) (enext : next ≡ nextRow d c)
+    (efrom : from ≡ rowAt n c) (eto : to ≡ rowAt n next) where
+  -- the next row lies within the room, and the copy to it may go forward
+  pub next-fits : Facts room → to + rowSize n ≤ length room
+  next-fits F = rw (eto, enext, en, ed) (row-inside room F (nextRow (depth room) c) (nextRow-lt (depth room) c (F .rows1)))
+
+  pub copy-fits : Facts room → ((to ≤ from) ⊎ (from + rowSize n ≤ to)) × ((from + rowSize n ≤ length room) × (to + rowSize n ≤ length room))
+  copy-fits F = (
+    rw (efrom, eto, enext) (next-apart n d c),
+    (rw (efrom, en, ec) (row-inside room F (current room) (F .inRing)), next-fits F),
+  )
+
+  -- together they are the paper's advance
+  pub advanced-by : (size : ℕ) (copy after : List ℕ) → size ≡ rowSize n
+      → copy ≡ copied n from to room → after ≡ agedRow n (take (to + size - to) (drop to (set copy 2 next)))
+      → take to (set copy 2 next) ++ (after ++ drop (to + size - to) (drop to (set copy 2 next))) ≡ advanced room
+  unfolding advanced
+  advanced-by size copy after esize ecopy eafter =
+      part-back-at (agedRow n) to size (set copy 2 next) after eafter ∙ rw (ecopy, esize, efrom, eto, enext, ec, en, ed)
+
+-- what is known of a store holds after the ring has moved, or not
+pub moved-facts : (w t : ℕ) (room : List ℕ) → Facts room → Facts (cond (moves w t room) (advanced room) room)
+moved-facts w t room F = go (moves w t room)
+  where
+    go : (b : Bool) → Facts (cond b (advanced room) room)
+    go true = advanced-facts room F
+    go false = F

@@ -1,0 +1,144 @@
+-- The steps of the code, in the order of the definition: the copy, the current row, the ages of the part that is lent.
+use mathlib.Core.Path.{_∙_}
+use native.Mathlib.Omega.{arith}
+use lib.ListN.{length-set}
+use Rattle.paper.proofs.WordViews.{nextRow-lt}
+use Rattle.ring.proofs.Turn.{next-fits, copy-fits, advanced-by}
+use borrow.Author.Needs.{needs}
+use Rattle.ring.proofs.advance.Statement.{statement}
+use Rattle.ring.proofs.advance.Tie as tie
+
+slice-read-wide : tie.Need-slice-read-wide
+slice-read-wide c = search needs
+
+wide-requires : tie.Need-wide-requires
+wide-requires c κs = search needs
+
+slice-read-wide-2 : tie.Need-slice-read-wide-2
+slice-read-wide-2 c = search needs
+
+wide-requires-2 : tie.Need-wide-requires-2
+wide-requires-2 c κs = search needs
+
+slice-read-wide-3 : tie.Need-slice-read-wide-3
+slice-read-wide-3 c = search needs
+
+wide-requires-3 : tie.Need-wide-requires-3
+wide-requires-3 c κs = search needs
+
+next-row-requires : tie.Need-next-row-requires
+next-row-requires c κs = search needs
+
+row-start-requires : tie.Need-row-start-requires
+row-start-requires c κs =
+    (omega arith, omega (arith, nextRow-lt (c .before .wide3 .result) (c .before .before .before .wide2 .result) (omega arith)))
+
+row-start-requires-2 : tie.Need-row-start-requires-2
+row-start-requires-2 c κs = search needs
+
+copy-records-requires : tie.Need-copy-records-requires
+copy-records-requires c κs =
+    let from = c in
+    let to = from .before .before in
+    let next = to .before in
+    let rows = next .before in
+    let row = rows .before .before in
+    let count = row .before .before in
+    let start = count .before .before .before in
+    copy-fits (start .args .room .now) (rows .wide3 .result) (count .wide .result) (row .wide2 .result) (next .next-row .result)
+    (from .row-start2 .result) (to .row-start .result) (rows .wide3 .ensures .0) (count .wide .ensures .0) (row .wide2 .ensures .0)
+    (next .next-row .ensures) (from .row-start2 .ensures) (to .row-start .ensures) (start .pre)
+
+cast-room : tie.Need-cast-room
+cast-room c =
+    let next = c .before .before .before .before .before .before in
+    omega (arith, nextRow-lt (next .before .wide3 .result) (next .before .before .before .wide2 .result) (omega arith))
+
+slice-write-room : tie.Need-slice-write-room
+slice-write-room c = search needs
+
+row-size-requires : tie.Need-row-size-requires
+row-size-requires c κs = search needs
+
+add-e : tie.Need-add-e
+add-e c =
+    let from = c .before .before .before .before in
+    let to = from .before .before in
+    let next = to .before in
+    let rows = next .before in
+    let row = rows .before .before in
+    let count = row .before .before in
+    let start = count .before .before .before in
+    let fits = next-fits (start .args .room .now) (rows .wide3 .result) (count .wide .result) (row .wide2 .result) (next .next-row .result)
+    (from .row-start2 .result) (to .row-start .result) (rows .wide3 .ensures .0) (count .wide .ensures .0) (row .wide2 .ensures .0)
+    (next .next-row .ensures) (from .row-start2 .ensures) (to .row-start .ensures) (start .pre) in
+    omega (arith, c .row-size .ensures)
+
+sub-age-row : tie.Need-sub-age-row
+sub-age-row c = search needs
+
+part-age-row-start : tie.Need-part-age-row-start
+part-age-row-start c = search needs
+
+part-age-row-end : tie.Need-part-age-row-end
+part-age-row-end c =
+    let from = c .before .before .before .before in
+    let to = from .before .before in
+    let next = to .before in
+    let rows = next .before in
+    let row = rows .before .before in
+    let count = row .before .before in
+    let start = count .before .before .before in
+    let fits = next-fits (start .args .room .now) (rows .wide3 .result) (count .wide .result) (row .wide2 .result) (next .next-row .result)
+    (from .row-start2 .result) (to .row-start .result) (rows .wide3 .ensures .0) (count .wide .ensures .0) (row .wide2 .ensures .0)
+    (next .next-row .ensures) (from .row-start2 .ensures) (to .row-start .ensures) (start .pre) in
+    simp length-set (omega (arith, c .row-size .ensures, c .before .before .before .copy-records .kept .0))
+
+age-row-requires : tie.Need-age-row-requires
+age-row-requires c κs = search needs
+
+same-length : tie.Need-same-length
+same-length c = c .before .room2 .given .1 ∙ simp length-set (c .before .before .before .before .before .before .before .copy-records .kept .0)
+
+returns : tie.Need-returns
+returns c =
+    let aged = c .before .before in
+    let sized = aged .before .before in
+    let copy = sized .before .before .before in
+    let from = copy .before in
+    let to = from .before .before in
+    let next = to .before in
+    let rows = next .before in
+    let row = rows .before .before in
+    let count = row .before .before in
+    let start = count .before .before .before in
+    advanced-by (start .args .room .now) (rows .wide3 .result) (count .wide .result) (row .wide2 .result) (next .next-row .result)
+    (from .row-start2 .result) (to .row-start .result) (rows .wide3 .ensures .0) (count .wide .ensures .0) (row .wide2 .ensures .0)
+    (next .next-row .ensures) (from .row-start2 .ensures) (to .row-start .ensures)
+    (sized .row-size .result) (copy .copy-records .last .0) (aged .age-row .last .0)
+    (sized .row-size .ensures) (copy .copy-records .ensures) (aged .age-row .ensures)
+
+pub advance-spec : {M : Type 1} → statement M
+advance-spec =
+    tie.close
+    (tie.spec
+    slice-read-wide
+    wide-requires
+    slice-read-wide-2
+    wide-requires-2
+    slice-read-wide-3
+    wide-requires-3
+    next-row-requires
+    row-start-requires
+    row-start-requires-2
+    copy-records-requires
+    cast-room
+    slice-write-room
+    row-size-requires
+    add-e
+    sub-age-row
+    part-age-row-start
+    part-age-row-end
+    age-row-requires
+    same-length
+    returns)

@@ -1,0 +1,90 @@
+-- The part that is lent is the current row, and comes back marked.
+use Prim.Native.Nat.{_<_}
+use mathlib.Core.Path.{_∙_}
+use native.Mathlib.Omega.{arith}
+use Rattle.paper.specs.Room.{depth}
+use Rattle.paper.specs.Feed.{markedAt, currentMarked}
+use Rattle.paper.proofs.Parts.{part-back-at}
+use Rattle.rows.proofs.Where.{row-ends}
+use borrow.Author.Needs.{needs}
+use Rattle.ring.proofs.mark_current.Statement.{statement}
+use Rattle.ring.proofs.mark_current.Tie as tie
+
+slice-read-wide : tie.Need-slice-read-wide
+slice-read-wide c = search needs
+
+wide-requires : tie.Need-wide-requires
+wide-requires c κs = search needs
+
+slice-read-wide-2 : tie.Need-slice-read-wide-2
+slice-read-wide-2 c = search needs
+
+wide-requires-2 : tie.Need-wide-requires-2
+wide-requires-2 c κs = search needs
+
+row-start-requires : tie.Need-row-start-requires
+row-start-requires c κs = search needs
+
+row-size-requires : tie.Need-row-size-requires
+row-size-requires c κs = search needs
+
+add-e : tie.Need-add-e
+add-e c =
+    let row = c .before .before in
+    let count = row .before .before in
+    let start = count .before .before .before in
+    let h : row .wide2 .result < depth (start .args .room .now) = omega (arith, start .pre .inRing) in
+    omega (arith, row-ends (start .args .room .now) _ _ _ _ (count .wide .ensures .0) (c .before .row-start .ensures) (c .row-size .ensures) (start .pre) h)
+
+sub-mark-row : tie.Need-sub-mark-row
+sub-mark-row c = search needs
+
+part-mark-row-start : tie.Need-part-mark-row-start
+part-mark-row-start c = search needs
+
+part-mark-row-end : tie.Need-part-mark-row-end
+part-mark-row-end c =
+    let row = c .before .before in
+    let count = row .before .before in
+    let start = count .before .before .before in
+    let h : row .wide2 .result < depth (start .args .room .now) = omega (arith, start .pre .inRing) in
+    omega (arith, row-ends (start .args .room .now) _ _ _ _ (count .wide .ensures .0) (c .before .row-start .ensures) (c .row-size .ensures) (start .pre) h)
+
+mark-row-requires : tie.Need-mark-row-requires
+mark-row-requires c κs = search needs
+
+same-length : tie.Need-same-length
+same-length c = search needs
+
+returns : tie.Need-returns
+unfolding currentMarked
+returns c =
+    let sized = c .before .before .before .before in
+    let placed = sized .before in
+    let row = placed .before in
+    let count = row .before .before in
+    let start = count .before .before .before in
+    let marked = c .before .before in (
+      row .wide2 .ensures .0,
+      part-back-at (markedAt (start .args .week) (start .args .time)) (placed .row-start .result) (sized .row-size .result) (start .args .room .now)
+          (marked .mark-row .last .0) (marked .mark-row .ensures)
+          ∙ rw (placed .row-start .ensures, sized .row-size .ensures, count .wide .ensures .0, row .wide2 .ensures .0),
+    )
+
+pub mark-current-spec : {M : Type 1} → statement M
+mark-current-spec =
+    tie.close
+    (tie.spec
+    slice-read-wide
+    wide-requires
+    slice-read-wide-2
+    wide-requires-2
+    row-start-requires
+    row-size-requires
+    add-e
+    sub-mark-row
+    part-mark-row-start
+    part-mark-row-end
+    mark-row-requires
+    same-length
+    returns)

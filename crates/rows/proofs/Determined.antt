@@ -1,0 +1,75 @@
+-- The promises of `rows` are tight: any two outcomes that a contract permits are equal, the answer, and the row that `mark_row` leaves.
+use mathlib.Core.Path.{_≡_, sym, _∙_}
+use borrow.Fn.Kinds.{resT, endedOf, Dens}
+use denote.Triple.Clauses.{AtExit}
+use contract.Lifetimes.{Lfts}
+use Rattle.rows.proofs.wide.Reads as wide-reads
+use Rattle.rows.proofs.wide.Kinds as wide-kinds
+use Rattle.rows.proofs.row_size.Reads as row-size-reads
+use Rattle.rows.proofs.row_size.Kinds as row-size-kinds
+use Rattle.rows.proofs.row_start.Reads as row-start-reads
+use Rattle.rows.proofs.row_start.Kinds as row-start-kinds
+use Rattle.rows.proofs.next_row.Reads as next-row-reads
+use Rattle.rows.proofs.next_row.Kinds as next-row-kinds
+use Rattle.rows.proofs.row_back.Reads as row-back-reads
+use Rattle.rows.proofs.row_back.Kinds as row-back-kinds
+use Rattle.rows.proofs.is_at.Reads as is-at-reads
+use Rattle.rows.proofs.is_at.Kinds as is-at-kinds
+use Rattle.rows.proofs.mark_row.Reads as mark-row-reads
+use Rattle.rows.proofs.mark_row.Kinds as mark-row-kinds
+
+pub wide-determined :
+    (κs : Lfts 0)
+    (a : Dens κs wide-kinds.ps)
+    (r r' : resT wide-kinds.r κs .Denot)
+    (e e' : AtExit (endedOf 0 wide-kinds.ps wide-kinds.r) κs)
+    → wide-reads.Post κs a r e → wide-reads.Post κs a r' e' → r ≡ r'
+wide-determined κs a r r' e e' p q = p .0 ∙ sym (q .0)
+
+pub row-size-determined :
+    (κs : Lfts 0)
+    (a : Dens κs row-size-kinds.ps)
+    (r r' : resT row-size-kinds.r κs .Denot)
+    (e e' : AtExit (endedOf 0 row-size-kinds.ps row-size-kinds.r) κs)
+    → row-size-reads.Post κs a r e → row-size-reads.Post κs a r' e' → r ≡ r'
+row-size-determined κs a r r' e e' p q = p ∙ sym q
+
+pub row-start-determined :
+    (κs : Lfts 0)
+    (a : Dens κs row-start-kinds.ps)
+    (r r' : resT row-start-kinds.r κs .Denot)
+    (e e' : AtExit (endedOf 0 row-start-kinds.ps row-start-kinds.r) κs)
+    → row-start-reads.Post κs a r e → row-start-reads.Post κs a r' e' → r ≡ r'
+row-start-determined κs a r r' e e' p q = p ∙ sym q
+
+pub next-row-determined :
+    (κs : Lfts 0)
+    (a : Dens κs next-row-kinds.ps)
+    (r r' : resT next-row-kinds.r κs .Denot)
+    (e e' : AtExit (endedOf 0 next-row-kinds.ps next-row-kinds.r) κs)
+    → next-row-reads.Post κs a r e → next-row-reads.Post κs a r' e' → r ≡ r'
+next-row-determined κs a r r' e e' p q = p ∙ sym q
+
+pub row-back-determined :
+    (κs : Lfts 0)
+    (a : Dens κs row-back-kinds.ps)
+    (r r' : resT row-back-kinds.r κs .Denot)
+    (e e' : AtExit (endedOf 0 row-back-kinds.ps row-back-kinds.r) κs)
+    → row-back-reads.Post κs a r e → row-back-reads.Post κs a r' e' → r ≡ r'
+row-back-determined κs a r r' e e' p q = p ∙ sym q
+
+pub is-at-determined :
+    (κs : Lfts 1)
+    (a : Dens κs is-at-kinds.ps)
+    (r r' : resT is-at-kinds.r κs .Denot)
+    (e e' : AtExit (endedOf 1 is-at-kinds.ps is-at-kinds.r) κs)
+    → is-at-reads.Post κs a r e → is-at-reads.Post κs a r' e' → r ≡ r'
+is-at-determined κs a r r' e e' p q = p ∙ sym q
+
+pub mark-row-determined :
+    (κs : Lfts 1)
+    (a : Dens κs mark-row-kinds.ps)
+    (r r' : resT mark-row-kinds.r κs .Denot)
+    (e e' : AtExit (endedOf 1 mark-row-kinds.ps mark-row-kinds.r) κs)
+    → mark-row-reads.Post κs a r e → mark-row-reads.Post κs a r' e' → e .0 .now ≡ e' .0 .now
+mark-row-determined κs a r r' e e' p q = p ∙ sym q
