@@ -1,0 +1,27 @@
+-- `kind_known` tests the three kinds one after the other.
+use native.Mathlib.Omega.{arith}
+use borrow.Author.Tests.{lt-ltb, le-ltb, le-leb, lt-leb, eq-eqb, ne-eqb, not-true, not-false}
+use mathlib.Core.Path.{_≡_, refl, sym, ap, _∙_}
+use mathlib.Core.Bool.{Bool, true, false}
+use mathlib.Core.List.{[]}
+use Prim.Native.Nat.{ℕ}
+use Rattle.entry.proofs.Order.{stop, pass, no-other-length}
+use Rattle.entry.proofs.kind_known.Statement.{statement}
+use Rattle.entry.proofs.kind_known.Tie as tie
+
+returns : tie.Need-returns
+returns c = rw (eq-eqb _ _ (c .if1 .taken))
+
+returns-2 : tie.Need-returns-2
+returns-2 c = rw (ne-eqb _ _ (c .before .if1 .left), eq-eqb _ _ (c .if2 .taken))
+
+returns-3 : tie.Need-returns-3
+returns-3 c = rw (ne-eqb _ _ (c .before .if1 .left), ne-eqb _ _ (c .if2 .left))
+
+pub kind-known-spec : {M : Type 1} → statement M
+kind-known-spec =
+    tie.close
+    (tie.spec
+    returns
+    returns-2
+    returns-3)

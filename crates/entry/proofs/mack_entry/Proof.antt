@@ -1,0 +1,49 @@
+-- `mack_entry` tests in the paper's order: each return is the first test that fails, behind those that hold.
+use native.Mathlib.Omega.{arith}
+use borrow.Author.Tests.{lt-ltb, le-ltb, le-leb, lt-leb, eq-eqb, ne-eqb, not-true, not-false}
+use mathlib.Core.Path.{_≡_, refl, sym, ap, _∙_}
+use mathlib.Core.Bool.{Bool, true, false}
+use mathlib.Core.List.{[]}
+use Prim.Native.Nat.{ℕ}
+use Rattle.entry.proofs.Order.{stop, pass, no-other-length}
+use Rattle.entry.specs.Mack.{mackNumber}
+use Rattle.entry.proofs.mack_entry.Statement.{statement}
+use Rattle.entry.proofs.mack_entry.Tie as tie
+
+is-store-requires : tie.Need-is-store-requires
+is-store-requires c κs = tt
+
+returns : tie.Need-returns
+unfolding mackNumber
+returns c = stop _ 2 _ [] (sym (c .before .is-store .ensures) ∙ not-true _ (c .if1 .taken))
+
+is-satellite-requires : tie.Need-is-satellite-requires
+is-satellite-requires c κs = tt
+
+returns-2 : tie.Need-returns-2
+unfolding mackNumber
+returns-2 c = stop _ 3 _ [] (sym (c .before .is-satellite .ensures) ∙ not-true _ (c .if2 .taken)) ∙ pass _ 3 _ [] (sym (c .before .before .before .is-store .ensures) ∙ not-false _ (c .before .before .if1 .left))
+
+returns-3 : tie.Need-returns-3
+unfolding mackNumber
+returns-3 c = stop _ 4 _ [] (le-ltb _ _ (c .if3 .taken)) ∙ pass _ 4 _ [] (sym (c .before .before .is-satellite .ensures) ∙ not-false _ (c .before .if2 .left)) ∙ pass _ 3 _ [] (sym (c .before .before .before .before .is-store .ensures) ∙ not-false _ (c .before .before .before .if1 .left))
+
+returns-4 : tie.Need-returns-4
+unfolding mackNumber
+returns-4 c = stop _ 5 _ [] (ne-eqb _ _ (c .if4 .taken)) ∙ pass _ 5 _ [] (lt-ltb _ _ (c .before .if3 .left)) ∙ pass _ 4 _ [] (sym (c .before .before .before .is-satellite .ensures) ∙ not-false _ (c .before .before .if2 .left)) ∙ pass _ 3 _ [] (sym (c .before .before .before .before .before .is-store .ensures) ∙ not-false _ (c .before .before .before .before .if1 .left))
+
+returns-5 : tie.Need-returns-5
+unfolding mackNumber
+returns-5 c = pass _ 6 0 [] (eq-eqb _ _ (c .if4 .left)) ∙ pass _ 5 _ [] (lt-ltb _ _ (c .before .if3 .left)) ∙ pass _ 4 _ [] (sym (c .before .before .before .is-satellite .ensures) ∙ not-false _ (c .before .before .if2 .left)) ∙ pass _ 3 _ [] (sym (c .before .before .before .before .before .is-store .ensures) ∙ not-false _ (c .before .before .before .before .if1 .left))
+
+pub mack-entry-spec : {M : Type 1} → statement M
+mack-entry-spec =
+    tie.close
+    (tie.spec
+    is-store-requires
+    returns
+    is-satellite-requires
+    returns-2
+    returns-3
+    returns-4
+    returns-5)

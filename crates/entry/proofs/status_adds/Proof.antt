@@ -1,0 +1,23 @@
+-- `status_adds` tests the two statuses one after the other.
+use native.Mathlib.Omega.{arith}
+use borrow.Author.Tests.{lt-ltb, le-ltb, le-leb, lt-leb, eq-eqb, ne-eqb, not-true, not-false}
+use mathlib.Core.Path.{_≡_, refl, sym, ap, _∙_}
+use mathlib.Core.Bool.{Bool, true, false}
+use mathlib.Core.List.{[]}
+use Prim.Native.Nat.{ℕ}
+use Rattle.entry.proofs.Order.{stop, pass, no-other-length}
+use Rattle.entry.proofs.status_adds.Statement.{statement}
+use Rattle.entry.proofs.status_adds.Tie as tie
+
+returns : tie.Need-returns
+returns c = rw (eq-eqb _ _ (c .if1 .taken))
+
+returns-2 : tie.Need-returns-2
+returns-2 c = rw (ne-eqb _ _ (c .if1 .left))
+
+pub status-adds-spec : {M : Type 1} → statement M
+status-adds-spec =
+    tie.close
+    (tie.spec
+    returns
+    returns-2)

@@ -1,0 +1,132 @@
+// "Order": the tests of each entry on its own input, in the paper's order, before anything is done. Each answers with the reply that
+// the call gives up to there.
+ghost use mathlib.Core.Path.{_≡_};
+ghost use mathlib.Core.Bool.{_&&_, cond};
+ghost use Prim.Native.Nat.{_+_, _*_, _≤_, _<_};
+ghost use lib.Dec.{leb, eqb};
+ghost use lib.ListN.{length};
+ghost use Rattle.paper.specs.Tag.{kindKnown, copAllowed, lengthAllowed, statusKnown, statusAdds};
+ghost use Rattle.paper.specs.Answer.{freshAnswer, feedAnswer};
+ghost use Rattle.refusals.specs.Reply.{answerOf};
+ghost use Rattle.entry.specs.Mack.{mackAnswer};
+use gst::Gst;
+use gst::SUBFRAME_SECONDS;
+use gst::WEEK_SECONDS;
+use refusals::Refusal;
+use refusals::Reply;
+use svn::Svn;
+
+// The bytes of a word.
+const WORD: usize = 16;
+
+// "fresh 1, 2"
+pub fn fresh_entry(room: &[u8], d: u8, n: u8) -> Reply
+    ensures { λ r. ⌜ answerOf r ≡ freshAnswer d n (now (room .entry)) ⌝ }
+{
+    if !store::sizes_allowed(d, n) {
+        return Reply::Refused(Refusal::Sizes);
+    }
+    if room.len() < rows::row_start(rows::wide(n), rows::wide(d)) {
+        return Reply::Refused(Refusal::TooShort);
+    }
+    Reply::Done
+}
+
+// "Word 3, 4, 5, 8, 9"
+pub fn feed_entry(room: &[u8], word: &[u8], svn: Svn, gst: Gst, band: u8) -> Reply
+    ensures { λ r. ⌜ answerOf r ≡ feedAnswer (now (word .entry)) (svn .0) (gst .tow .0) band (now (room .entry)) ⌝ }
+{
+    if !store::is_store(room) {
+        return Reply::Refused(Refusal::NotAStore);
+    }
+    if !svn.is_satellite() {
+        return Reply::Refused(Refusal::NoSatellite);
+    }
+    let time = gst.tow.0;
+    if time >= WEEK_SECONDS {
+        return Reply::Refused(Refusal::NoTime);
+    }
+    if word.len() != WORD {
+        return Reply::Refused(Refusal::NotAllowed);
+    }
+    if band > 1 {
+        return Reply::Refused(Refusal::Unknown);
+    }
+    Reply::Done
+}
+
+// "Tag 3, 4, 5, 6": what a tag and the candidate test first
+pub fn mack_entry(room: &[u8], svn: Svn, gst: Gst) -> Reply
+    ensures { λ r. ⌜ answerOf r ≡ mackAnswer (svn .0) (gst .tow .0) (now (room .entry)) ⌝ }
+{
+    if !store::is_store(room) {
+        return Reply::Refused(Refusal::NotAStore);
+    }
+    if !svn.is_satellite() {
+        return Reply::Refused(Refusal::NoSatellite);
+    }
+    let time = gst.tow.0;
+    if time >= WEEK_SECONDS {
+        return Reply::Refused(Refusal::NoTime);
+    }
+    if time % SUBFRAME_SECONDS != 0 {
+        return Reply::Refused(Refusal::NotAStart);
+    }
+    Reply::Done
+}
+
+// "kind (0 CED, 4 timing, 12 slow CED)"
+pub fn kind_known(kind: u8) -> bool
+    ensures { λ r. ⌜ r ≡ kindKnown kind ⌝ }
+{
+    if kind == 0 {
+        return true;
+    }
+    if kind == 4 {
+        return true;
+    }
+    kind == 12
+}
+
+// "COP 0 to 15"
+pub fn cop_allowed(cop: u8) -> bool
+    ensures { λ r. ⌜ r ≡ copAllowed cop ⌝ }
+{
+    cop <= 15
+}
+
+// "length 20, 24, 28, 32 or 40"
+pub fn length_allowed(bits: u8) -> bool
+    ensures { λ r. ⌜ r ≡ lengthAllowed bits ⌝ }
+{
+    if bits == 20 {
+        return true;
+    }
+    if bits == 24 {
+        return true;
+    }
+    if bits == 28 {
+        return true;
+    }
+    if bits == 32 {
+        return true;
+    }
+    bits == 40
+}
+
+// "status (0 reserved, 1 test, 2 operational, 3 don't use)"
+pub fn status_known(status: u8) -> bool
+    ensures { λ r. ⌜ r ≡ statusKnown status ⌝ }
+{
+    status <= 3
+}
+
+// whether a tag adds under this status: "18 status 0 or 3, nothing added"
+pub fn status_adds(status: u8) -> bool
+    ensures { λ r. ⌜ r ≡ statusAdds status ⌝ }
+{
+    if status == 1 {
+        return true;
+    }
+    status == 2
+}
