@@ -1,0 +1,5 @@
+pub mod Table
+pub mod Sizes
+pub mod Taken
+pub mod Written
+pub mod Determined

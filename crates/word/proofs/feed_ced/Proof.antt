@@ -1,0 +1,38 @@
+-- The record is taken, then the part that the word owns is written.
+use mathlib.Core.Path.{_∙_}
+use Rattle.paper.specs.Word.{fedRecord}
+use borrow.Author.Needs.{needs}
+use Rattle.word.proofs.feed_ced.Statement.{statement}
+use Rattle.word.proofs.feed_ced.Tie as tie
+
+take-over-ced-requires : tie.Need-take-over-ced-requires
+take-over-ced-requires c κs = search needs
+
+type-of-requires : tie.Need-type-of-requires
+type-of-requires c κs = search needs
+
+owned-ced-requires : tie.Need-owned-ced-requires
+owned-ced-requires c κs = search needs
+
+write-owned-requires : tie.Need-write-owned-requires
+write-owned-requires c κs = search needs
+
+same-length : tie.Need-same-length
+same-length c = search needs
+
+returns : tie.Need-returns
+unfolding fedRecord
+returns c band =
+    c .before .before .write-owned .ensures
+    ∙ rw (c .before .before .before .before .owned-ced .ensures .0 band, c .before .before .before .before .before .type-of .ensures, c .before .before .before .before .before .before .before .before .take-over-ced .ensures)
+
+pub feed-ced-spec : {M : Type 1} → statement M
+feed-ced-spec =
+    tie.close
+    (tie.spec
+    take-over-ced-requires
+    type-of-requires
+    owned-ced-requires
+    write-owned-requires
+    same-length
+    returns)
