@@ -1,0 +1,58 @@
+-- `fresh::blank_slot` meets its contract: the lent parts are the slot's two records, each of its kind's length.
+use native.Mathlib.Omega.{arith}
+use borrow.Author.Needs.{needs}
+use Rattle.paper.proofs.Parts.{length-part}
+use mathlib.Core.Path.{refl}
+use Rattle.paper.specs.Record.{CED, Timing}
+use Rattle.fresh.proofs.Blank.{slot-blank}
+use Rattle.fresh.proofs.blank_slot.Statement.{statement}
+use Rattle.fresh.proofs.blank_slot.Tie as tie
+
+sub-blank-record : tie.Need-sub-blank-record
+sub-blank-record c = search needs
+
+part-blank-record-start : tie.Need-part-blank-record-start
+part-blank-record-start c = search needs
+
+part-blank-record-end : tie.Need-part-blank-record-end
+part-blank-record-end c = search needs
+
+blank-record-requires : tie.Need-blank-record-requires
+blank-record-requires c κs = search needs
+
+sub-blank-record-2 : tie.Need-sub-blank-record-2
+sub-blank-record-2 c = search needs
+
+part-blank-record-start-2 : tie.Need-part-blank-record-start-2
+part-blank-record-start-2 c = search needs
+
+part-blank-record-end-2 : tie.Need-part-blank-record-end-2
+part-blank-record-end-2 c = search needs
+
+blank-record-requires-2 : tie.Need-blank-record-requires-2
+blank-record-requires-2 c κs = search needs
+
+same-length : tie.Need-same-length
+same-length c = search needs
+
+returns : tie.Need-returns
+returns c =
+    let slot = c .before .before .before .before .before .before .before .before .before .args .slot .now in
+    slot-blank slot _ _ (c .before .before .before .before .before .before .before .before .before .pre)
+    (c .before .before .before .before .before .before .blank-record .ensures CED (length-part 0 77 slot (omega arith)) refl)
+    (λ e. c .before .before .blank-record2 .ensures Timing e refl)
+
+pub blank-slot-spec : {M : Type 1} → statement M
+blank-slot-spec =
+    tie.close
+    (tie.spec
+    sub-blank-record
+    part-blank-record-start
+    part-blank-record-end
+    blank-record-requires
+    sub-blank-record-2
+    part-blank-record-start-2
+    part-blank-record-end-2
+    blank-record-requires-2
+    same-length
+    returns)

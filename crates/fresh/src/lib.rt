@@ -1,0 +1,105 @@
+// "Fresh room": all rows blank, row 0 current, data zero, ages 255, no satellites, counts 0. Whether D, N and the room's length are
+// allowed is tested before.
+ghost use mathlib.Core.Path.{_≡_};
+ghost use Prim.Native.Nat.{_+_, _≤_, _<_};
+ghost use lib.ListN.{length, replicate};
+ghost use Rattle.paper.specs.Fresh.{header, blankSlot, blankRow, fresh};
+ghost use Rattle.paper.specs.Parts.{onPart, onParts};
+ghost use Rattle.paper.specs.Record.{Family, ages, size, blankRecord};
+ghost use Rattle.paper.specs.Room.{slotSize, rowSize, roomSize};
+use layout::HEADER;
+use layout::ROW_HEAD;
+use layout::SLOT;
+use layout::TIMING_AT;
+use records::Ced;
+use records::Timing;
+
+fn wide(x: u8) -> usize
+    ensures { λ r. ⌜ (r ≡ x) × (r < 256) ⌝ }
+{
+    x as usize
+}
+
+// Every byte made x.
+fn fill(bytes: &mut [u8], x: u8)
+    ensures { λ _. ⌜ now (bytes .exit) ≡ replicate (length (now (bytes .entry))) x ⌝ }
+{
+    let mut i: usize = 0;
+    while i < bytes.len() {
+        bytes[i] = x;
+        i += 1;
+    }
+}
+
+// For the family whose length and number of words it has: the ages stand behind the satellite and the count.
+fn blank_record(bytes: &mut [u8], words: usize)
+    requires { ⌜ 3 + words ≤ length (now bytes) ⌝ }
+    ensures { λ _. ⌜ ((f : Family) → length (now (bytes .entry)) ≡ size f → words ≡ ages f → now (bytes .exit) ≡ blankRecord f) ⌝ }
+{
+    fill(bytes, 0);
+    let e = 3 + words;
+    fill(&mut bytes[3..e], 255);
+}
+
+fn blank_slot(slot: &mut [u8])
+    requires { ⌜ length (now slot) ≡ slotSize ⌝ }
+    ensures { λ _. ⌜ now (slot .exit) ≡ blankSlot ⌝ }
+{
+    blank_record(&mut slot[0..TIMING_AT], Ced::WORDS);
+    blank_record(&mut slot[TIMING_AT..SLOT], Timing::WORDS);
+}
+
+fn blank_slots(row: &mut [u8], n: usize)
+    requires { ⌜ rowSize n ≤ length (now row) ⌝ }
+    ensures { λ _. ⌜ now (row .exit) ≡ onParts (λ _. blankSlot) slotSize n 8 (now (row .entry)) ⌝ }
+{
+    let mut at = ROW_HEAD;
+    let mut left = n;
+    while left > 0 {
+        let e = at + SLOT;
+        blank_slot(&mut row[at..e]);
+        at = e;
+        left -= 1;
+    }
+}
+
+fn blank_row(row: &mut [u8], n: usize)
+    requires { ⌜ rowSize n ≤ length (now row) ⌝ }
+    ensures { λ _. ⌜ now (row .exit) ≡ blankRow n (now (row .entry)) ⌝ }
+{
+    fill(&mut row[0..ROW_HEAD], 0);
+    blank_slots(row, n);
+}
+
+fn blank_rows(room: &mut [u8], d: usize, n: usize)
+    requires { ⌜ (n < 256) × (roomSize d n ≤ length (now room)) ⌝ }
+    ensures { λ _. ⌜ now (room .exit) ≡ onParts (blankRow n) (rowSize n) d 8 (now (room .entry)) ⌝ }
+{
+    let row = ROW_HEAD + n * SLOT;
+    let mut at = HEADER;
+    let mut left = d;
+    while left > 0 {
+        let e = at + row;
+        blank_row(&mut room[at..e], n);
+        at = e;
+        left -= 1;
+    }
+}
+
+fn put_header(room: &mut [u8], d: u8, n: u8)
+    requires { ⌜ 8 ≤ length (now room) ⌝ }
+    ensures { λ _. ⌜ now (room .exit) ≡ onPart (λ _. header d n) 0 8 (now (room .entry)) ⌝ }
+{
+    fill(&mut room[0..HEADER], 0);
+    room[0] = d;
+    room[1] = n;
+}
+
+// The room with a fresh store of D rows and N slots at its start; its bytes past the formula's length stay.
+pub fn fresh_room(room: &mut [u8], d: u8, n: u8)
+    requires { ⌜ roomSize d n ≤ length (now room) ⌝ }
+    ensures { λ _. ⌜ now (room .exit) ≡ fresh d n (now (room .entry)) ⌝ }
+{
+    put_header(room, d, n);
+    blank_rows(room, wide(d), wide(n));
+}
