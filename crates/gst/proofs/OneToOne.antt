@@ -3,7 +3,6 @@ use mathlib.Core.Path.{_≡_, refl, sym, ap, _∙_}
 use mathlib.Core.Bool.{cond}
 use mathlib.Core.List.{[], _∷_}
 use lib.Dec.{eqb}
-use lib.IntN.{ℤ}
 use Rattle.paper.specs.Number.{Answer, done, refused}
 use Rattle.paper.specs.Time.{Difference, subframes, noDifference}
 use Rattle.gst.specs.Answer.{answerOf, startAnswer, apartAnswer}

@@ -1,6 +1,6 @@
 -- The exact sum of `paper`, by the sign and the size of what is added.
 use native.Mathlib.Omega.{arith}
-use mathlib.Core.Path.{_≡_, refl}
+use mathlib.Core.Path.{_≡_}
 use mathlib.Core.Bool.{true, false}
 use borrow.Author.Tests.{le-ltb, lt-ltb, le-leb, lt-leb}
 use Prim.Native.Nat.{ℕ, suc, _+_, _-_, _≤_, _<_}

@@ -1,9 +1,9 @@
 -- What an answer tells the caller of `gst`, arm by arm of a match on it.
 use native.Mathlib.Omega.{arith}
-use mathlib.Core.Path.{_≡_, refl, sym, ap, subst, _∙_}
+use mathlib.Core.Path.{_≡_, refl, sym, ap, _∙_}
 use mathlib.Core.Bool.{Bool, true, false, cond}
 use mathlib.Core.Logic.{⊎-elim}
-use mathlib.Core.List.{List, [], _∷_}
+use mathlib.Core.List.{[], _∷_}
 use Prim.Native.Nat.{ℕ, _/_, _%_, _≤_, _<_}
 use borrow.Author.Tests.{leb-true}
 use lib.Dec.{eqb, leb}
@@ -11,13 +11,12 @@ use lib.IntN.{ℤ, pos, negsuc, _+ℤ_}
 use lib.Signed.{leZ}
 use types.Run.{OneOf}
 use denote.Enum.Declared.{tagOf}
-use Rattle.paper.specs.Number.{Answer, done, refused, number, values}
-use Rattle.paper.specs.Time.{isTime, isStart, startOf, weekSeconds, lastWeek, secondsOf, timeAt, sumOf, addSeconds, addSubframes, subframeOf, isSubframe}
+use Rattle.paper.specs.Number.{Answer, done, refused, number}
+use Rattle.paper.specs.Time.{isTime, isStart, startOf, weekSeconds, lastWeek, secondsOf, timeAt, sumOf, addSeconds, subframeOf, isSubframe}
 use Rattle.gst.specs.Answer.{answerOf, startAnswer}
 use Rattle.gst.specs.declared.Gst.{Gst}
 use Rattle.gst.specs.declared.NewTime.{NewTime}
 use Rattle.gst.specs.declared.NewTime.the-variants.{Time, NoTime, OutOfRange}
-use Rattle.gst.specs.declared.Start.{Start}
 use Rattle.gst.specs.declared.Start.the-variants.{Yes, No, NoTime as NoStart}
 use Rattle.gst.proofs.NewTime.{the-type}
 

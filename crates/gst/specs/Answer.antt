@@ -3,7 +3,6 @@ use Prim.Native.Nat.{ℕ}
 use mathlib.Core.List.{[], _∷_}
 use Rattle.paper.specs.Number.{Answer, done, refused}
 use Rattle.paper.specs.Time.{Difference, subframes, noDifference, addSeconds, addSubframes, subframeOf}
-use Rattle.gst.specs.declared.Gst.{Gst}
 use Rattle.gst.specs.declared.NewTime.{NewTime}
 use Rattle.gst.specs.declared.NewTime.the-variants.{Time, NoTime, OutOfRange}
 use Rattle.gst.specs.declared.Start.{Start}

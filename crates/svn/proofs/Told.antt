@@ -4,7 +4,7 @@ use mathlib.Core.Path.{_≡_, refl}
 use mathlib.Core.Bool.{Bool, true, false, cond}
 use mathlib.Core.List.{[], _∷_}
 use Prim.Native.Nat.{ℕ}
-use Rattle.paper.specs.Number.{Answer, done, refused}
+use Rattle.paper.specs.Number.{done, refused}
 use Rattle.paper.specs.Satellite.{isSatellite, satelliteOf}
 use Rattle.svn.specs.Answer.{answerOf}
 use Rattle.svn.specs.declared.Svn.{Svn}

@@ -1,7 +1,6 @@
 -- The paper's number and values for each case of an answer of `svn`.
 use mathlib.Core.List.{[], _∷_}
 use Rattle.paper.specs.Number.{Answer, done, refused}
-use Rattle.svn.specs.declared.Svn.{Svn}
 use Rattle.svn.specs.declared.Satellite.{Satellite}
 use Rattle.svn.specs.declared.Satellite.the-variants.{Of, NoSatellite}
 

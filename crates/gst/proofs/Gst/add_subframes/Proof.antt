@@ -2,11 +2,11 @@
 use Prim.Native.Nat.{_≤_, _<_}
 use borrow.Author.Needs.{needs}
 use borrow.Author.Tests.{le-ltb, lt-ltb, le-leb, lt-leb}
-use lib.IntN.{ℤ, pos, natAbs, _*ℤ_}
-use mathlib.Core.Path.{sym, _∙_, ap}
+use lib.IntN.{pos, natAbs, _*ℤ_}
+use mathlib.Core.Path.{sym, _∙_}
 use mir.Facts.{toZ-ofZ}
 use native.Mathlib.Omega.{arith}
-use Rattle.paper.specs.Time.{addSubframes, subframeSeconds, mostSubframes, sumOf}
+use Rattle.paper.specs.Time.{addSubframes, subframeSeconds, mostSubframes}
 use Rattle.gst.proofs.Integers.{fits, size-product}
 use Rattle.gst.proofs.Gst.add_subframes.Statement.{statement}
 use Rattle.gst.proofs.Gst.add_subframes.Tie as tie

@@ -43,7 +43,7 @@ cast-if3 c = search needs
 
 returns-2 : tie.Need-returns-2
 returns-2 c =
-    let total = c .before .before .before .before .before .seconds .ensures .0 in
+    let total = c .before .before .before .before .before .seconds .ensures in
     too-early _ _ _ (c .before .before .before .before .before .before .args .seconds)
     (sized (c .before .before .before .before)) (negative (c .before .before))
     (c .before .if2 .left) (rw total at (c .if3 .taken))
@@ -59,7 +59,7 @@ time-at-requires c κs = search needs
 
 returns-3 : tie.Need-returns-3
 returns-3 c =
-    let total = c .before .before .before .before .before .before .seconds .ensures .0 in
+    let total = c .before .before .before .before .before .before .seconds .ensures in
     c .time-at .ensures
     ∙ rw total
     (backward _ _ _ (c .before .before .before .before .before .before .before .args .seconds)
@@ -78,7 +78,7 @@ time-at-requires-2 c κs = search needs
 returns-4 : tie.Need-returns-4
 returns-4 c =
     c .time-at2 .ensures
-    ∙ rw (c .before .before .before .before .seconds .ensures .0)
+    ∙ rw (c .before .before .before .before .seconds .ensures)
     (forward _ _ _ (c .before .before .before .before .before .args .seconds)
     (sized (c .before .before .before)) (positive (c .before)))
 

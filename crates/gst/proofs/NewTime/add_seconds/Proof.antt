@@ -1,6 +1,5 @@
 -- `NewTime::add_seconds`: the argument reaches the chained call as it is.
 use borrow.Author.Needs.{needs}
-use mathlib.Core.Path.{refl}
 use mir.Facts.{toZ-ofZ}
 use Rattle.gst.proofs.NewTime.add_seconds.Statement.{statement}
 use Rattle.gst.proofs.NewTime.add_seconds.Tie as tie

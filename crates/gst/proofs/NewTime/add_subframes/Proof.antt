@@ -1,6 +1,5 @@
 -- `NewTime::add_subframes`: the argument reaches the chained call as it is.
 use borrow.Author.Needs.{needs}
-use mathlib.Core.Path.{refl}
 use mir.Facts.{toZ-ofZ}
 use Rattle.gst.proofs.NewTime.add_subframes.Statement.{statement}
 use Rattle.gst.proofs.NewTime.add_subframes.Tie as tie

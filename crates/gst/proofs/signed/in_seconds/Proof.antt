@@ -1,6 +1,6 @@
 -- `in_seconds`: 30 × 71582788 is the greatest multiple of 30 that an i32 holds.
 use native.Mathlib.Omega.{arith}
-use lib.IntN.{pos, natAbs, _*ℤ_}
+use lib.IntN.{pos, _*ℤ_}
 use mir.Facts.{toZ-ofZ}
 use Rattle.paper.specs.Time.{subframeSeconds}
 use Rattle.gst.proofs.Integers.{fits, size-product}

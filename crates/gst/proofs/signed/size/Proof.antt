@@ -1,11 +1,5 @@
 -- `size`: in 64 bits the negation of any i32 fits, and what comes back fits a u32.
-use mathlib.Core.Path.{_≡_, refl}
-use mathlib.Core.Bool.{true, false}
-use Prim.Native.Nat.{ℕ}
-use lib.IntN.{ℤ, pos, natAbs, _-ℤ_}
-use lib.Signed.{ltZ}
-use mir.Syntax.{w32, w64}
-use mir.Val.{SFits}
+use mir.Syntax.{w32}
 use mir.Facts.{toZ-ofZ, sfits-widen, fits-natAbs}
 use Rattle.gst.proofs.Integers.{negated-fits, negated-size, not-below, widened}
 use Rattle.gst.proofs.signed.size.Statement.{statement}
