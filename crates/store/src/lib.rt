@@ -2,11 +2,11 @@
 // it reads the satellite, the count where there is no satellite, and the last byte.
 ghost use mathlib.Core.Path.{_≡_};
 ghost use mathlib.Core.Bool.{_&&_};
-ghost use Prim.Native.Nat.{_≤_, _<_};
+ghost use Prim.Native.Nat.{_+_, _*_, _≤_, _<_};
 ghost use lib.Dec.{leb};
 ghost use lib.ListN.{length};
 ghost use Rattle.paper.specs.Parts.{allParts};
-ghost use Rattle.paper.specs.Record.{Family, size};
+ghost use Rattle.paper.specs.Record.{Family, size, satellite, count};
 ghost use Rattle.paper.specs.Room.{slotSize, rowSize, roomSize};
 ghost use Rattle.paper.specs.Store.{sizesAllowed, headerInRange, headerZeros, recordAllowed, slotAllowed, markAllowed, subframeAllowed, blankAllowed, rowAllowed, isStore};
 use layout::HEADER;
@@ -73,16 +73,23 @@ fn known(satellite: u8, most: u8) -> bool
     satellite <= most
 }
 
+// The satellite and the count as one number: 0 where there is neither.
+fn holds(record: &[u8]) -> u32
+    requires { ⌜ 3 ≤ length (now «record») ⌝ }
+    ensures { λ r. ⌜ r ≡ satellite (now («record» .entry)) * 65536 + count (now («record» .entry)) ⌝ }
+{
+    let satellite = record[0] as u32;
+    let count = numbers::read16(record, 1) as u32;
+    satellite * 65536 + count
+}
+
 // For the family whose length the record has. A known satellite comes first: it needs no look at the count.
 fn record_allowed(record: &[u8], most: u8) -> bool
-    requires { ⌜ 4 ≤ length (now «record») ⌝ }
+    requires { ⌜ 3 ≤ length (now «record») ⌝ }
     ensures { λ r. ⌜ ((f : Family) → size f ≡ length (now («record» .entry)) → r ≡ recordAllowed f most (now («record» .entry))) ⌝ }
 {
     if !known(record[0], most) {
-        if record[0] != 0 {
-            return false;
-        }
-        if numbers::read16(record, 1) != 0 {
+        if holds(record) != 0 {
             return false;
         }
     }
