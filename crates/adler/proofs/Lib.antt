@@ -1,0 +1,3 @@
+-- The laws of `adler`.
+pub mod Sums
+pub mod Determined

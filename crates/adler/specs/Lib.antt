@@ -1,0 +1,2 @@
+-- What the contracts of `adler` cite.
+pub mod Adler
