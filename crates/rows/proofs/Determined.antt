@@ -9,6 +9,8 @@ use Rattle.rows.proofs.row_size.Reads as row-size-reads
 use Rattle.rows.proofs.row_size.Kinds as row-size-kinds
 use Rattle.rows.proofs.row_start.Reads as row-start-reads
 use Rattle.rows.proofs.row_start.Kinds as row-start-kinds
+use Rattle.rows.proofs.record_start.Reads as record-start-reads
+use Rattle.rows.proofs.record_start.Kinds as record-start-kinds
 use Rattle.rows.proofs.next_row.Reads as next-row-reads
 use Rattle.rows.proofs.next_row.Kinds as next-row-kinds
 use Rattle.rows.proofs.row_back.Reads as row-back-reads
@@ -41,6 +43,14 @@ pub row-start-determined :
     (e e' : AtExit (endedOf 0 row-start-kinds.ps row-start-kinds.r) κs)
     → row-start-reads.Post κs a r e → row-start-reads.Post κs a r' e' → r ≡ r'
 row-start-determined κs a r r' e e' p q = p ∙ sym q
+
+pub record-start-determined :
+    (κs : Lfts 0)
+    (a : Dens κs record-start-kinds.ps)
+    (r r' : resT record-start-kinds.r κs .Denot)
+    (e e' : AtExit (endedOf 0 record-start-kinds.ps record-start-kinds.r) κs)
+    → record-start-reads.Post κs a r e → record-start-reads.Post κs a r' e' → r ≡ r'
+record-start-determined κs a r r' e e' p q = p ∙ sym q
 
 pub next-row-determined :
     (κs : Lfts 0)

@@ -35,6 +35,10 @@ next-apart n d c = go (decLt (c + 1) d)
         simp (lt-ltb _ _ g) (inr (rw e (omega (arith, suc-mul c (rowSize n)))))
     go (no g) = let e : d ≤ c + 1 = omega arith in simp (le-ltb _ _ e) (inl (omega arith))
 
+-- the row behind row r
+pub row-next : (n r : ℕ) → rowAt n (r + 1) ≡ rowAt n r + rowSize n
+row-next n r = let e : r + 1 ≡ suc r = omega arith in rw e (omega (arith, suc-mul r (rowSize n)))
+
 -- the row so many back is a row
 pub back-below : (d c j : ℕ) → c < d → j < d → rowBack d c j < d
 unfolding rowBack

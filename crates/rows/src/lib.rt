@@ -1,13 +1,15 @@
-// Rows of the room: where one starts, which one comes next or lies so many back, its mark and its subframe.
+// Rows of the room: where one and its records start, which one comes next or lies so many back, its mark and its subframe.
 ghost use mathlib.Core.Path.{_≡_};
 ghost use Prim.Native.Nat.{_≤_, _<_};
 ghost use lib.ListN.{length};
-ghost use Rattle.paper.specs.Room.{rowSize, rowAt, isAt};
+ghost use Rattle.paper.specs.Record.{familyIf};
+ghost use Rattle.paper.specs.Room.{rowSize, rowAt, recordAt, isAt};
 ghost use Rattle.paper.specs.Feed.{nextRow, markedAt};
 ghost use Rattle.paper.specs.Ask.{rowBack};
 use layout::HEADER;
 use layout::ROW_HEAD;
 use layout::SLOT;
+use layout::TIMING_AT;
 
 // D, N and the current row are single bytes.
 pub fn wide(x: u8) -> usize
@@ -30,6 +32,17 @@ pub fn row_start(n: usize, r: usize) -> usize
     ensures { λ at. ⌜ at ≡ rowAt n r ⌝ }
 {
     HEADER + r * row_size(n)
+}
+
+// Where the record of slot i starts in its row.
+pub fn record_start(timing: bool, i: usize) -> usize
+    requires { ⌜ i < 256 ⌝ }
+    ensures { λ at. ⌜ at ≡ recordAt (familyIf timing) i ⌝ }
+{
+    if timing {
+        return ROW_HEAD + i * SLOT + TIMING_AT;
+    }
+    ROW_HEAD + i * SLOT
 }
 
 // "after the last comes row 0"

@@ -1,0 +1,61 @@
+-- The candidate in a row, step by step as the code goes: no record of the satellite, one whose ages do not fit, the candidate.
+-- Assumes nothing.
+use mathlib.Core.Path.{_≡_, sym, ap, _∙_}
+use mathlib.Core.Bool.{true, false}
+use mathlib.Core.List.{List}
+use Prim.Native.Nat.{ℕ, _+_, _-_, _≤_, _<_}
+use borrow.Author.Tests.{lt-ltb}
+use lib.ListN.{length, take, drop}
+use Rattle.paper.specs.Parts.{part}
+use Rattle.paper.specs.Record.{Family, size}
+use Rattle.paper.specs.Room.{rowSize, depth, slots, rowAt, rowOf, recordAt, recordOf}
+use Rattle.paper.specs.Tag.{firstSlot, fitsCop}
+use Rattle.paper.proofs.Views.{Facts}
+use Rattle.rows.proofs.Where.{row-lent}
+use Rattle.lookup.specs.declared.Found.{Found}
+use Rattle.lookup.specs.declared.Found.the-variants.{At, Nothing}
+use Rattle.lookup.specs.Found.{found}
+use Rattle.lookup.specs.Candidate.{placeOf, candidateIn}
+use Rattle.lookup.proofs.Search.{found-at, found-not}
+use Rattle.lookup.proofs.Places.{place-inside, place-record}
+
+module _ (f : Family) (sat cop r : ℕ) (room : List ℕ) (n start long : ℕ) (en : n ≡ slots room) (es : start ≡ rowAt n r) (ez : long ≡ rowSize n)
+    (a : Found) (ea : a ≡ found n (firstSlot f sat n (take (start + long - start) (drop start room)))) where
+  abbrev slot : ℕ
+  slot = firstSlot f sat (slots room) (rowOf r room)
+
+  answer : a ≡ found (slots room) slot
+  answer = ea ∙ rw (row-lent room n r start long en es ez, en)
+
+  pub in-none : a ≡ Nothing → Nothing ≡ candidateIn f sat cop r room
+  unfolding candidateIn
+  in-none e = rw (found-not (slots room) slot (sym answer ∙ e))
+
+  -- the slot that was found
+  module _ (x : ℕ) (ex : a ≡ At x) where
+    is-slot : x ≡ slot
+    is-slot = found-at (slots room) slot x (sym answer ∙ ex) .0
+
+    within : slot < slots room
+    within = found-at (slots room) slot x (sym answer ∙ ex) .1
+
+    pub in-slot : x < n
+    in-slot = rw (is-slot, en) within
+
+    module _ (at : ℕ) (eat : at ≡ recordAt f x) where
+      is-place : start + at ≡ placeOf f r slot room
+      is-place = rw (es, eat, is-slot, en)
+
+      pub in-inside : Facts room → r < depth room → start + at + size f ≤ length room
+      in-inside F h = rw is-place (place-inside f r slot room within F h)
+
+      is-record : part (start + at) (size f) room ≡ recordOf f slot (rowOf r room)
+      is-record = rw is-place (place-record f r slot room within)
+
+      pub in-unfit : fitsCop f cop (part (start + at) (size f) room) ≡ false → Nothing ≡ candidateIn f sat cop r room
+      unfolding candidateIn
+      in-unfit e = rw (lt-ltb slot (slots room) within, ← is-record, e)
+
+      pub in-fit : fitsCop f cop (part (start + at) (size f) room) ≡ true → At (start + at) ≡ candidateIn f sat cop r room
+      unfolding candidateIn
+      in-fit e = rw (lt-ltb slot (slots room) within, ← is-record, e) (ap At is-place)

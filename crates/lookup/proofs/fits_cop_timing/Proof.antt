@@ -1,0 +1,22 @@
+-- The test of the code is the test of the definition.
+use Rattle.paper.specs.Tag.{fitsCop}
+use borrow.Author.Needs.{needs}
+use Rattle.lookup.proofs.fits_cop_timing.Statement.{statement}
+use Rattle.lookup.proofs.fits_cop_timing.Tie as tie
+
+ages-requires : tie.Need-ages-requires
+ages-requires c κs = search needs
+
+greatest-requires : tie.Need-greatest-requires
+greatest-requires c κs = search needs
+
+one-more-requires : tie.Need-one-more-requires
+one-more-requires c κs = search needs
+
+returns : tie.Need-returns
+unfolding fitsCop
+returns c = simp (c .one-more .ensures, c .before .greatest .ensures, c .before .before .ages .ensures)
+
+pub fits-cop-timing-spec : {M : Type 1} → statement M
+fits-cop-timing-spec =
+    tie.close (tie.spec ages-requires greatest-requires one-more-requires returns)

@@ -1,0 +1,139 @@
+-- The loop holds where row number `row` starts, and that the first row of all is the first from here on.
+use Prim.Native.Nat.{_-_, _≤_, _<_}
+use mathlib.Core.Path.{_≡_, sym, ap, _∙_}
+use mathlib.Core.Bool.{_&&_}
+use native.Mathlib.Omega.{arith}
+use Rattle.paper.specs.Parts.{firstFrom}
+use Rattle.paper.specs.Room.{depth, rowAt, marked, isAt}
+use Rattle.paper.specs.Tag.{firstRow}
+use Rattle.paper.proofs.Parts.{length-lent}
+use Rattle.paper.proofs.First.{first-on}
+use Rattle.rows.proofs.Where.{row-ends, row-lent, row-next}
+use Rattle.lookup.proofs.Search.{isMarked, found-here, found-none}
+use Rattle.lookup.proofs.row_marked.Statement.{statement}
+use Rattle.lookup.proofs.row_marked.Tie as tie
+
+abbrev Inv-loop : tie.InvT-loop
+Inv-loop room week time d n size at₀ row₀ at row = (row ≤ d) × ((at ≡ rowAt n row) × (firstRow week time room ≡ firstFrom (isMarked week time room) (d - row) row))
+
+abbrev μ-loop : tie.MeasureT-loop
+μ-loop room week time d n size at₀ row₀ at row = d - row
+
+shared-slice-read-wide : tie.Need-shared-slice-read-wide Inv-loop μ-loop
+shared-slice-read-wide c = omega arith
+
+wide-requires : tie.Need-wide-requires Inv-loop μ-loop
+wide-requires c κs = omega arith
+
+shared-slice-read-wide-2 : tie.Need-shared-slice-read-wide-2 Inv-loop μ-loop
+shared-slice-read-wide-2 c = omega arith
+
+wide-requires-2 : tie.Need-wide-requires-2 Inv-loop μ-loop
+wide-requires-2 c κs = omega arith
+
+row-size-requires : tie.Need-row-size-requires Inv-loop μ-loop
+row-size-requires c κs = omega arith
+
+loop-holds : tie.Need-loop-holds Inv-loop μ-loop
+unfolding firstRow
+loop-holds c =
+    let rows = c .before .before .before in
+    let e : rows .wide .result - 0 ≡ rows .wide .result = omega arith in
+    (omega arith, (omega arith, rw (e, rows .wide .ensures .0)))
+
+returns : tie.Need-returns Inv-loop μ-loop
+returns c =
+    let rows = c .before .before .before .before .before in
+    rw (← rows .wide .ensures .0) (found-none _ _ _ _ (c .before .loop .inv .1 .1) (c .if1 .taken))
+
+add-e : tie.Need-add-e Inv-loop μ-loop
+add-e c =
+    let here = c .before .loop in
+    let sized = c .before .before in
+    let count = sized .before in
+    let rows = count .before .before in
+    let start = rows .before .before .before in
+    let h : here .row < depth (start .args .room .now) = omega (arith, rows .wide .ensures) in
+    omega (arith, row-ends (start .args .room .now) _ _ _ _ (count .wide2 .ensures .0) (here .inv .1 .0) (sized .row-size .ensures) (start .pre) h)
+
+sub-is-marked-at : tie.Need-sub-is-marked-at Inv-loop μ-loop
+sub-is-marked-at c = omega arith
+
+part-is-marked-at-start : tie.Need-part-is-marked-at-start Inv-loop μ-loop
+part-is-marked-at-start c = omega arith
+
+part-is-marked-at-end : tie.Need-part-is-marked-at-end Inv-loop μ-loop
+part-is-marked-at-end c =
+    let here = c .before .loop in
+    let sized = c .before .before in
+    let count = sized .before in
+    let rows = count .before .before in
+    let start = rows .before .before .before in
+    let h : here .row < depth (start .args .room .now) = omega (arith, rows .wide .ensures) in
+    omega (arith, row-ends (start .args .room .now) _ _ _ _ (count .wide2 .ensures .0) (here .inv .1 .0) (sized .row-size .ensures) (start .pre) h)
+
+is-marked-at-requires : tie.Need-is-marked-at-requires Inv-loop μ-loop
+is-marked-at-requires c κs =
+    let here = c .before .before .loop in
+    let sized = c .before .before .before in
+    let count = sized .before in
+    let rows = count .before .before in
+    let start = rows .before .before .before in
+    let h : here .row < depth (start .args .room .now) = omega (arith, rows .wide .ensures) in
+    let ends = row-ends (start .args .room .now) _ _ _ _ (count .wide2 .ensures .0) (here .inv .1 .0) (sized .row-size .ensures) (start .pre) h in
+    omega (arith, length-lent (here .at) (sized .row-size .result) (start .args .room .now) ends, sized .row-size .ensures)
+
+add-row : tie.Need-add-row Inv-loop μ-loop
+add-row c = omega arith
+
+loop-less : tie.Need-loop-less Inv-loop μ-loop
+loop-less c = omega arith
+
+loop-again : tie.Need-loop-again Inv-loop μ-loop
+loop-again c =
+    let here = c .before .before .before .before .loop in
+    let sized = c .before .before .before .before .before in
+    let count = sized .before in
+    let start = count .before .before .before .before .before in
+    let lent = row-lent (start .args .room .now) _ _ _ _ (count .wide2 .ensures .0) (here .inv .1 .0) (sized .row-size .ensures) in
+    let test = c .before .is-marked-at .ensures ∙ ap (λ l. marked l && isAt (start .args .week) (start .args .time) l) lent in (
+      omega arith,
+      (
+        rw row-next (omega (arith, here .inv .1 .0, sized .row-size .ensures)),
+        first-on _ _ _ _ (here .inv .1 .1) (c .before .before .before .if1 .left) (sym test ∙ c .if2 .left),
+      ),
+    )
+
+returns-2 : tie.Need-returns-2 Inv-loop μ-loop
+returns-2 c =
+    let here = c .before .before .before .before .loop in
+    let sized = c .before .before .before .before .before in
+    let count = sized .before in
+    let rows = count .before .before in
+    let start = rows .before .before .before in
+    let lent = row-lent (start .args .room .now) _ _ _ _ (count .wide2 .ensures .0) (here .inv .1 .0) (sized .row-size .ensures) in
+    let test = c .before .is-marked-at .ensures ∙ ap (λ l. marked l && isAt (start .args .week) (start .args .time) l) lent in
+    rw (← rows .wide .ensures .0) (found-here _ _ _ _ (here .inv .1 .1) (c .before .before .before .if1 .left) (sym test ∙ c .if2 .taken))
+
+pub row-marked-spec : {M : Type 1} → statement M
+row-marked-spec =
+    tie.close
+    (tie.spec
+    Inv-loop
+    μ-loop
+    shared-slice-read-wide
+    wide-requires
+    shared-slice-read-wide-2
+    wide-requires-2
+    row-size-requires
+    loop-holds
+    returns
+    add-e
+    sub-is-marked-at
+    part-is-marked-at-start
+    part-is-marked-at-end
+    is-marked-at-requires
+    add-row
+    loop-less
+    loop-again
+    returns-2)

@@ -1,0 +1,27 @@
+-- Where the candidate of a tag lies in the room, for the subframe w, t that its row is marked with.
+use Prim.Native.Nat.{ℕ, _+_}
+use mathlib.Core.List.{List}
+use lib.Dec.{ltb}
+use Rattle.paper.specs.Record.{Family}
+use Rattle.paper.specs.Room.{depth, slots, rowAt, rowOf, recordAt, recordOf}
+use Rattle.paper.specs.Tag.{firstRow, firstSlot, fitsCop}
+use Rattle.lookup.specs.declared.Found.{Found}
+use Rattle.lookup.specs.declared.Found.the-variants.{At, Nothing}
+use Rattle.lookup.specs.Found.{pick}
+
+-- where the record of slot i of row r starts in the room
+abbrev pub placeOf : Family → ℕ → ℕ → List ℕ → ℕ
+placeOf f r i room = rowAt (slots room) r + recordAt f i
+
+-- "the first record there of that satellite and family", if its ages fit the COP: where it starts, for row r
+unfoldable pub candidateIn : Family → ℕ → ℕ → ℕ → List ℕ → Found
+candidateIn f sat cop r room =
+    let row = rowOf r room in
+    let i = firstSlot f sat (slots room) row in
+    pick (ltb i (slots room)) (pick (fitsCop f cop (recordOf f i row)) (At (placeOf f r i room)) Nothing) Nothing
+
+-- in "the first row, from row 0 up, marked with" w, t
+unfoldable pub candidateAt : Family → ℕ → ℕ → ℕ → ℕ → List ℕ → Found
+candidateAt f sat cop w t room =
+    let r = firstRow w t room in
+    pick (ltb r (depth room)) (candidateIn f sat cop r room) Nothing
