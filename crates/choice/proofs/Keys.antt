@@ -19,7 +19,7 @@ use Rattle.paper.proofs.Bytes.{bytes-part}
 use Rattle.paper.proofs.Views.{record-parts}
 use Rattle.paper.proofs.Lengths.{lastGreatest-lt}
 use Rattle.choice.specs.Last.{isOf, lastOf, pick}
-use Rattle.choice.specs.declared.Place.the-variants.{At, Nowhere}
+use Rattle.choice.specs.declared.Place.the-variants.{At}
 
 -- "the last of equals": a key that is no less takes the place of the best before it
 next-new : (k : ℕ → ℕ) (n : ℕ) → k (lastGreatest k n) ≤ k n → lastGreatest k (suc n) ≡ n

@@ -1,8 +1,8 @@
 -- The search from the end, one step and its end, and what its answer says.
 use native.Mathlib.Omega.{arith}
-use mathlib.Core.Path.{_≡_, refl, sym, ap, _∙_}
+use mathlib.Core.Path.{_≡_, sym, ap, _∙_}
 use mathlib.Core.Bool.{Bool, true, false}
-use Prim.Native.Nat.{ℕ, zero, suc, _-_, _≤_, _<_}
+use Prim.Native.Nat.{ℕ, zero, suc, _-_, _<_}
 use Rattle.choice.specs.Last.{lastOf, pick}
 use Rattle.choice.specs.declared.Place.{Place}
 use Rattle.choice.specs.declared.Place.the-variants.{At, Nowhere}

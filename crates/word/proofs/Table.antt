@@ -1,5 +1,5 @@
 -- The types and bands that the table of words leaves out.
-use mathlib.Core.Path.{_≡_, refl, sym}
+use mathlib.Core.Path.{_≡_, sym}
 use mathlib.Core.Logic.{_≢_}
 use mathlib.Core.Bool.{and-false}
 use Prim.Native.Nat.{ℕ}

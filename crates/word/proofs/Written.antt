@@ -1,11 +1,10 @@
 -- What comes back of a record whose data was lent to the move of bits, with the age and the count behind it.
-use mathlib.Core.Path.{_≡_, refl, sym, ap, _∙_}
+use mathlib.Core.Path.{_≡_}
 use mathlib.Core.Bool.{Bool, cond}
 use mathlib.Core.List.{List, _++_}
 use Prim.Native.Nat.{ℕ, _+_}
 use lib.ListN.{take, drop, set}
 use Rattle.paper.specs.Bits.{moved, changed}
-use Rattle.paper.specs.Parts.{onPart}
 use Rattle.paper.specs.Record.{Family, dataAt, dataBytes, withCount}
 use Rattle.paper.specs.Word.{owns, written}
 use Rattle.paper.proofs.Parts.{part-back}

@@ -14,7 +14,8 @@ base-requires c κs = search needs
 
 last-of-requires : tie.Need-last-of-requires
 last-of-requires c κs =
-    omega (arith, c .base .ensures, slot-fits (familyIf (c .before .before .args .timing)), record-parts (familyIf (c .before .before .args .timing)))
+    let f = familyIf (c .before .before .args .timing) in
+    omega (arith, c .base .ensures, slot-fits f, record-parts f)
 
 enum-known-slot : tie.Need-enum-known-slot
 enum-known-slot c = search needs
@@ -27,14 +28,18 @@ by-keys-requires c κs = search needs
 
 returns : tie.Need-returns
 returns c =
+    let s = c .before .before .before .before .before .before in
     let e = c .by-keys .ensures in
-    (e, rw e (chosen-lt (familyIf (c .before .before .before .before .before .before .args .timing)) _ _ _ (c .before .before .before .before .before .before .pre .0)))
+    (e, rw e (chosen-lt (familyIf (s .args .timing)) _ _ _ (s .pre .0)))
 
 returns-2 : tie.Need-returns-2
 returns-2 c =
-    let e = c .before .before .before .last-of .ensures in
-    let b = c .before .before .before .before .base .ensures in
-    own-is-chosen (familyIf (c .before .before .before .before .before .before .args .timing)) _ _ _ _ (λ k. c .before .before .before .before .before .shared-slice-known .given k .fits) (sym (rw b at e) ∙ c .before .slot .given .1)
+    let s = c .before .before .before .before .before .before in
+    let last = c .before .before .before .last-of .ensures in
+    let base = c .before .before .before .before .base .ensures in
+    own-is-chosen (familyIf (s .args .timing)) _ _ _ _
+    (λ k. c .before .before .before .before .before .shared-slice-known .given k .fits)
+    (sym (rw base at last) ∙ c .before .slot .given .1)
 
 pub choose-spec : {M : Type 1} → statement M
 choose-spec =

@@ -36,8 +36,9 @@ key-timing-requires c κs = search needs
 
 returns : tie.Need-returns
 returns c =
+    let s = c .before .before .before .before .args in
     rw (c .before .before .if1 .taken)
-    (c .key-timing .ensures ∙ ap (key Timing _) (part-lent (recordAt Timing (c .before .before .before .before .args .i)) (size Timing) (c .before .before .before .before .args .row .now)))
+    (c .key-timing .ensures ∙ ap (key Timing _) (part-lent (recordAt Timing (s .i)) (size Timing) (s .row .now)))
 
 add-key-ced : tie.Need-add-key-ced
 add-key-ced c = search needs
@@ -56,8 +57,9 @@ key-ced-requires c κs = search needs
 
 returns-2 : tie.Need-returns-2
 returns-2 c =
+    let s = c .before .before .before .before .args in
     rw (c .before .before .if1 .left, add-zero)
-    (c .key-ced .ensures ∙ ap (key CED _) (part-lent (8 + c .before .before .before .before .args .i * slotSize) (size CED) (c .before .before .before .before .args .row .now)))
+    (c .key-ced .ensures ∙ ap (key CED _) (part-lent (8 + s .i * slotSize) (size CED) (s .row .now)))
 
 pub key-at-spec : {M : Type 1} → statement M
 key-at-spec =

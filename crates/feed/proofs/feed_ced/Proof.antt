@@ -37,7 +37,9 @@ same-length c = search needs
 
 returns : tie.Need-returns
 returns c band =
-    fed-back CED (c .before .before .before .before .before .before .before .before .args .n) (c .before .before .before .before .before .before .before .before .args .sat) band (c .before .before .before .before .choose-ced .result) (8 + c .before .before .before .before .choose-ced .result * slotSize) (c .before .before .before .before .before .before .before .before .args .word .now) (c .before .before .before .before .before .before .before .before .args .row .now) _
+    let s = c .before .before .before .before .before .before .before .before .args in
+    let slot = c .before .before .before .before .choose-ced .result in
+    fed-back CED (s .n) (s .sat) band slot (8 + slot * slotSize) (s .word .now) (s .row .now) _
     (c .before .before .before .before .choose-ced .ensures .0) (omega arith) (c .before .before .feed-ced .ensures band)
 
 pub feed-ced-spec : {M : Type 1} → statement M

@@ -39,7 +39,9 @@ same-length c = search needs
 
 returns : tie.Need-returns
 returns c =
-    fed-back Timing (c .before .before .before .before .before .before .before .before .args .n) (c .before .before .before .before .before .before .before .before .args .sat) (c .before .before .before .before .before .before .before .before .args .band) (c .before .before .before .before .choose-timing .result) (recordAt Timing (c .before .before .before .before .choose-timing .result)) (c .before .before .before .before .before .before .before .before .args .word .now) (c .before .before .before .before .before .before .before .before .args .row .now) _
+    let s = c .before .before .before .before .before .before .before .before .args in
+    let slot = c .before .before .before .before .choose-timing .result in
+    fed-back Timing (s .n) (s .sat) (s .band) slot (recordAt Timing slot) (s .word .now) (s .row .now) _
     (c .before .before .before .before .choose-timing .ensures .0) refl (c .before .before .feed-timing .ensures)
 
 pub feed-timing-spec : {M : Type 1} → statement M

@@ -45,7 +45,7 @@ returns-5 c = rw (c .line5 .ensures, c .before .match .keys5) ((λ band. refl), 
 returns-6 : tie.Need-returns-6
 returns-6 c =
     let r = c .match .rest in
-    ((λ band. no-ced (c .before .args .kind) band (r .0 .0 .0 .0 .1) (r .0 .0 .0 .1) (r .0 .0 .1) (r .0 .1) (r .1)), omega arith)
+    ((λ band. no-ced (c .before .args .kind) band (r .0 .0 .0 .0 .1) (r .0 .0 .0 .1) (r .0 .0 .1) (r .0 .1) (r .1)), tt)
 
 pub owned-ced-spec : {M : Type 1} → statement M
 owned-ced-spec =

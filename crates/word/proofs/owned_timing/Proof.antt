@@ -8,7 +8,7 @@ use Rattle.word.proofs.owned_timing.Statement.{statement}
 use Rattle.word.proofs.owned_timing.Tie as tie
 
 returns : tie.Need-returns
-returns c = (no-timing-on (c .before .args .kind) (c .before .args .band) (c .if1 .taken), omega arith)
+returns c = (no-timing-on (c .before .args .kind) (c .before .args .band) (c .if1 .taken), tt)
 
 line-requires : tie.Need-line-requires
 line-requires c κs = search needs
@@ -27,7 +27,7 @@ returns-3 c = rw (c .line2 .ensures, c .before .match .keys2, c .before .before 
 returns-4 : tie.Need-returns-4
 returns-4 c =
     let r = c .match .rest in
-    (rw (c .before .if1 .left) (no-timing (c .before .before .args .kind) (r .0 .1) (r .1)), omega arith)
+    (rw (c .before .if1 .left) (no-timing (c .before .before .args .kind) (r .0 .1) (r .1)), tt)
 
 pub owned-timing-spec : {M : Type 1} → statement M
 owned-timing-spec =

@@ -25,27 +25,40 @@ part-move-bits-end c = search needs
 
 move-bits-requires : tie.Need-move-bits-requires
 move-bits-requires c κs =
-    let p = record-parts (familyIf (c .before .before .before .before .args .timing)) in
-    let b = bits-fit (familyIf (c .before .before .before .before .args .timing)) in
-    simp (length-take, length-drop) (omega (arith, c .before .data-at .ensures, c .before .before .before .before .pre))
+    let s = c .before .before .before .before in
+    let f = familyIf (s .args .timing) in
+    simp (length-take, length-drop)
+    (omega (arith, record-parts f, bits-fit f, c .before .data-at .ensures, s .pre))
 
 add-bytes : tie.Need-add-bytes
-add-bytes c = omega (arith, record-parts (familyIf (c .before .before .before .before .before .before .before .args .timing)), bits-fit (familyIf (c .before .before .before .before .before .before .before .args .timing)))
+add-bytes c =
+    let s = c .before .before .before .before .before .before .before in
+    let f = familyIf (s .args .timing) in
+    omega (arith, record-parts f, bits-fit f, s .pre)
 
 slice-write-bytes : tie.Need-slice-write-bytes
-slice-write-bytes c = omega (arith, record-parts (familyIf (c .before .before .before .before .before .before .before .args .timing)), bits-fit (familyIf (c .before .before .before .before .before .before .before .args .timing)))
+slice-write-bytes c =
+    let s = c .before .before .before .before .before .before .before in
+    let f = familyIf (s .args .timing) in
+    omega (arith, record-parts f, s .pre, c .before .bytes .given)
 
 clear-count-if-requires : tie.Need-clear-count-if-requires
-clear-count-if-requires c κs = simp length-set (omega (arith, record-parts (familyIf (c .before .before .before .before .before .before .before .before .args .timing)), c .before .before .bytes .given))
+clear-count-if-requires c κs =
+    let s = c .before .before .before .before .before .before .before .before in
+    let f = familyIf (s .args .timing) in
+    simp length-set (omega (arith, record-parts f, s .pre, c .before .before .bytes .given))
 
 same-length : tie.Need-same-length
 same-length c = c .before .before .clear-count-if .kept .0 ∙ simp length-set (c .before .before .before .before .before .bytes .given .1)
 
 returns : tie.Need-returns
 returns c =
-    let e : length (c .before .before .before .before .before .before .before .before .before .before .before .args .bytes .now) - c .before .before .before .before .before .before .before .before .data-at .result ≡ dataBytes (familyIf (c .before .before .before .before .before .before .before .before .before .before .before .args .timing)) = omega (arith, record-parts (familyIf (c .before .before .before .before .before .before .before .before .before .before .before .args .timing)), c .before .before .before .before .before .before .before .before .data-at .ensures, c .before .before .before .before .before .before .before .before .before .before .before .pre) in
-    c .before .before .clear-count-if .ensures
-    ∙ written-back (familyIf (c .before .before .before .before .before .before .before .before .before .before .before .args .timing)) _ _ _ _ _ _ _ _ _ _ (c .before .before .before .before .before .before .before .before .data-at .ensures) e (c .before .before .before .before .before .before .move-bits .ensures .0) (c .before .before .before .before .before .before .move-bits .ensures .1)
+    let s = c .before .before .before .before .before .before .before .before .before .before .before in
+    let f = familyIf (s .args .timing) in
+    let d = c .before .before .before .before .before .before .before .before .data-at in
+    let m = c .before .before .before .before .before .before .move-bits .ensures in
+    let e : length (s .args .bytes .now) - d .result ≡ dataBytes f = omega (arith, record-parts f, d .ensures, s .pre) in
+    c .before .before .clear-count-if .ensures ∙ written-back f _ _ _ _ _ _ _ _ _ _ (d .ensures) e (m .0) (m .1)
 
 pub write-bits-spec : {M : Type 1} → statement M
 write-bits-spec =
