@@ -14,12 +14,6 @@ use layout::TIMING_AT;
 use records::Ced;
 use records::Timing;
 
-fn wide(x: u8) -> usize
-    ensures { λ r. ⌜ (r ≡ x) × (r < 256) ⌝ }
-{
-    x as usize
-}
-
 // Every byte made x.
 fn fill(bytes: &mut [u8], x: u8)
     ensures { λ _. ⌜ now (bytes .exit) ≡ replicate (length (now (bytes .entry))) x ⌝ }
@@ -75,7 +69,7 @@ fn blank_rows(room: &mut [u8], d: usize, n: usize)
     requires { ⌜ (n < 256) × (roomSize d n ≤ length (now room)) ⌝ }
     ensures { λ _. ⌜ now (room .exit) ≡ onParts (blankRow n) (rowSize n) d 8 (now (room .entry)) ⌝ }
 {
-    let row = ROW_HEAD + n * SLOT;
+    let row = rows::row_size(n);
     let mut at = HEADER;
     let mut left = d;
     while left > 0 {
@@ -101,5 +95,5 @@ pub fn fresh_room(room: &mut [u8], d: u8, n: u8)
     ensures { λ _. ⌜ now (room .exit) ≡ fresh d n (now (room .entry)) ⌝ }
 {
     put_header(room, d, n);
-    blank_rows(room, wide(d), wide(n));
+    blank_rows(room, rows::wide(d), rows::wide(n));
 }

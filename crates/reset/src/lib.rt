@@ -11,12 +11,6 @@ use layout::ROW_HEAD;
 use layout::SLOT;
 use layout::TIMING_AT;
 
-fn wide(x: u8) -> usize
-    ensures { λ r. ⌜ (r ≡ x) × (r < 256) ⌝ }
-{
-    x as usize
-}
-
 // What follows is for the family whose records start at `from` in their slots.
 fn clear_slot(slot: &mut [u8], from: usize)
     requires { ⌜ (length (now slot) ≡ slotSize) × (from ≤ 77) ⌝ }
@@ -43,7 +37,7 @@ fn clear_rows(room: &mut [u8], d: usize, n: usize, from: usize)
     requires { ⌜ (n < 256) × ((roomSize d n ≤ length (now room)) × (from ≤ 77)) ⌝ }
     ensures { λ _. ⌜ ((f : Family) → from ≡ base f → now (room .exit) ≡ onParts (eachRecord f n (withCount 0)) (rowSize n) d 8 (now (room .entry))) ⌝ }
 {
-    let row = ROW_HEAD + n * SLOT;
+    let row = rows::row_size(n);
     let mut at = HEADER;
     let mut left = d;
     while left > 0 {
@@ -59,8 +53,8 @@ pub fn reset_room(room: &mut [u8])
     requires { ⌜ roomSize (depth (now room)) (slots (now room)) ≤ length (now room) ⌝ }
     ensures { λ _. ⌜ now (room .exit) ≡ reset (now (room .entry)) ⌝ }
 {
-    let d = wide(room[0]);
-    let n = wide(room[1]);
+    let d = rows::wide(room[0]);
+    let n = rows::wide(room[1]);
     clear_rows(room, d, n, 0);
     clear_rows(room, d, n, TIMING_AT);
 }

@@ -22,12 +22,6 @@ const SUBFRAME_SECONDS: u32 = 30;
 
 const LAST_SUBFRAME: u32 = 604770;
 
-fn wide(x: u8) -> usize
-    ensures { λ r. ⌜ (r ≡ x) × (r < 256) ⌝ }
-{
-    x as usize
-}
-
 // "D or N outside its range": whether neither is. The test of a fresh store too.
 pub fn sizes_allowed(d: u8, n: u8) -> bool
     ensures { λ r. ⌜ r ≡ sizesAllowed d n ⌝ }
@@ -178,7 +172,7 @@ fn rows_allowed(room: &[u8], d: usize, n: usize) -> bool
     requires { ⌜ (n < 256) × (roomSize d n ≤ length (now room)) ⌝ }
     ensures { λ r. ⌜ r ≡ allParts (rowAllowed n) (rowSize n) d 8 (now (room .entry)) ⌝ }
 {
-    let row = ROW_HEAD + n * SLOT;
+    let row = rows::row_size(n);
     let mut at = HEADER;
     let mut left = d;
     while left > 0 {
@@ -205,9 +199,10 @@ pub fn is_store(room: &[u8]) -> bool
     if !header_zeros(room) {
         return false;
     }
-    let d = wide(room[0]);
-    let n = wide(room[1]);
-    if room.len() < HEADER + d * (ROW_HEAD + n * SLOT) {
+    let d = rows::wide(room[0]);
+    let n = rows::wide(room[1]);
+    // the room ends where a row D would start
+    if room.len() < rows::row_start(n, d) {
         return false;
     }
     rows_allowed(room, d, n)

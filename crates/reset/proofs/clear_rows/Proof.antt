@@ -1,7 +1,7 @@
 -- `reset::clear_rows` meets its contract: the rows from here on, cleared, make what all of them make.
 use native.Mathlib.Omega.{arith}
-use mathlib.Core.Path.{_≡_, refl, _∙_}
-use Prim.Native.Nat.{_+_, _*_, _≤_}
+use mathlib.Core.Path.{_≡_, refl, sym, ap, _∙_}
+use Prim.Native.Nat.{ℕ, _+_, _*_, _≤_}
 use lib.ListN.{length}
 use Rattle.paper.proofs.Parts.{mul-step, part-back-at, parts-step, parts-done}
 use Rattle.paper.specs.Parts.{onParts}
@@ -12,25 +12,23 @@ use Rattle.reset.proofs.clear_rows.Tie as tie
 
 abbrev Inv-loop : tie.InvT-loop
 Inv-loop room₀ d n from row at₀ left₀ room at left =
-    (at + left * rowSize n ≤ length room)
+    (at + left * row ≤ length room)
     × (length room ≡ length room₀)
-    × ((f : Family) → from ≡ base f →
-    onParts (eachRecord f n (withCount 0)) (rowSize n) d 8 room₀ ≡ onParts (eachRecord f n (withCount 0)) (rowSize n) left at room)
+    × ((f : Family) → from ≡ base f → onParts (eachRecord f n (withCount 0)) (rowSize n) d 8 room₀ ≡ onParts (eachRecord f n (withCount 0)) row left at room)
 
 abbrev μ-loop : tie.MeasureT-loop
 μ-loop room₀ d n from row at₀ left₀ room at left = left
 
-mul-row : tie.Need-mul-row Inv-loop μ-loop
-mul-row c = omega arith
-
-add-row : tie.Need-add-row Inv-loop μ-loop
-add-row c = omega arith
+row-size-requires : tie.Need-row-size-requires Inv-loop μ-loop
+row-size-requires c κs = omega arith
 
 loop-holds : tie.Need-loop-holds Inv-loop μ-loop
-loop-holds c = (omega arith, refl, λ f e. refl)
+loop-holds c =
+    let start = c .before .before .args in
+    (simp (c .row-size .ensures) (omega arith), refl, λ f e. ap (λ (k : ℕ). onParts (eachRecord f (start .n) (withCount 0)) k (start .d) 8 (start .room .now)) (sym (c .row-size .ensures)))
 
 add-next : tie.Need-add-next Inv-loop μ-loop
-add-next c = omega (arith, mul-step (c .before .loop .left) (rowSize (c .before .before .before .args .n)) (c .loop-test .taken))
+add-next c = omega (arith, mul-step (c .before .loop .left) (c .before .before .row-size .result) (c .loop-test .taken))
 
 sub-clear-each : tie.Need-sub-clear-each Inv-loop μ-loop
 sub-clear-each c = omega arith
@@ -39,10 +37,10 @@ part-clear-each-start : tie.Need-part-clear-each-start Inv-loop μ-loop
 part-clear-each-start c = omega arith
 
 part-clear-each-end : tie.Need-part-clear-each-end Inv-loop μ-loop
-part-clear-each-end c = omega (arith, mul-step (c .before .loop .left) (rowSize (c .before .before .before .args .n)) (c .loop-test .taken))
+part-clear-each-end c = omega (arith, mul-step (c .before .loop .left) (c .before .before .row-size .result) (c .loop-test .taken))
 
 clear-each-requires : tie.Need-clear-each-requires Inv-loop μ-loop
-clear-each-requires c κs = omega (arith, c .clear-each-arg .given)
+clear-each-requires c κs = omega (arith, c .clear-each-arg .given, c .before .before .before .row-size .ensures)
 
 sub-left : tie.Need-sub-left Inv-loop μ-loop
 sub-left c = omega arith
@@ -53,11 +51,11 @@ loop-less c = omega arith
 loop-again : tie.Need-loop-again Inv-loop μ-loop
 loop-again c =
     let s = c .before .before .before .before .before .loop in
-    let n = c .before .before .before .before .before .before .before .args .n in (
-      omega (arith, mul-step (s .left) (rowSize n) (c .before .before .before .before .loop-test .taken), c .before .room .given .1),
+    let row = c .before .before .before .before .before .before .row-size .result in (
+      omega (arith, mul-step (s .left) row (c .before .before .before .before .loop-test .taken), c .before .room .given .1),
       c .before .room .given .1 ∙ s .inv .1,
       λ f e.
-          rw (part-back-at (eachRecord f n (withCount 0)) (s .at) (rowSize n) (s .room) _ (c .before .before .clear-each .ensures f e))
+          rw (part-back-at (eachRecord f (c .before .before .before .before .before .before .before .before .args .n) (withCount 0)) (s .at) row (s .room) _ (c .before .before .clear-each .ensures f e))
           (parts-step _ _ _ _ _ _ (c .before .before .before .before .loop-test .taken) (s .inv .2 f e)),
     )
 
@@ -73,8 +71,7 @@ clear-rows-spec =
     (tie.spec
     Inv-loop
     μ-loop
-    mul-row
-    add-row
+    row-size-requires
     loop-holds
     add-next
     sub-clear-each

@@ -1,17 +1,24 @@
 -- `store::is_store` meets its contract: each `return` is the clause that its branch decided, those before it being true.
-use native.Mathlib.Omega.{arith}
 use borrow.Author.Needs.{needs}
-use mathlib.Core.Path.{sym, _∙_}
-use native.Mathlib.Nat.{mul-le-mul}
-use Prim.Native.Nat.{ℕ, _*_, _≤_, _<_}
+use mathlib.Core.Bool.{true, _&&_}
+use mathlib.Core.List.{List}
+use mathlib.Core.Path.{_≡_, sym, _∙_}
+use Prim.Native.Nat.{ℕ}
 use borrow.Author.Tests.{le-leb, lt-leb, not-true, not-false}
-use Rattle.paper.specs.Room.{rowSize}
-use Rattle.paper.specs.Store.{isStore}
+use lib.Dec.{leb}
+use lib.ListN.{length}
+use Rattle.paper.specs.Parts.{allParts}
+use Rattle.paper.specs.Room.{rowSize, roomSize, depth, slots}
+use Rattle.paper.specs.Store.{headerInRange, headerZeros, rowAllowed, isStore}
 use Rattle.store.proofs.is_store.Statement.{statement}
 use Rattle.store.proofs.is_store.Tie as tie
 
-room-size-fits : (d n : ℕ) → d < 256 → n < 256 → d * rowSize n ≤ 255 * rowSize 255
-room-size-fits d n h g = let w : rowSize n ≤ rowSize 255 = omega arith in mul-le-mul {n₂ = 255} (omega arith) w
+-- a room whose header is in order: its length and its rows decide
+behind-header : (room : List ℕ) (d n : ℕ) → d ≡ depth room → n ≡ slots room
+    → leb 8 (length room) ≡ true → headerInRange room ≡ true → headerZeros room ≡ true
+    → isStore room ≡ (leb (roomSize d n) (length room) && allParts (rowAllowed n) (rowSize n) d 8 room)
+unfolding isStore
+behind-header room d n p q a b c = rw (a, b, c, p, q)
 
 returns : tie.Need-returns
 unfolding isStore
@@ -48,45 +55,32 @@ shared-slice-read-wide-2 c = search needs
 wide-requires-2 : tie.Need-wide-requires-2
 wide-requires-2 c κs = search needs
 
-mul-if4 : tie.Need-mul-if4
-mul-if4 c = search needs
-
-add-if4 : tie.Need-add-if4
-add-if4 c = search needs
-
-mul-if4-2 : tie.Need-mul-if4-2
-mul-if4-2 c = omega (arith, room-size-fits (c .before .before .wide .result) (c .wide2 .result) (c .before .before .wide .ensures .1) (c .wide2 .ensures .1))
-
-add-if4-2 : tie.Need-add-if4-2
-add-if4-2 c = omega (arith, room-size-fits (c .before .before .wide .result) (c .wide2 .result) (c .before .before .wide .ensures .1) (c .wide2 .ensures .1))
+row-start-requires : tie.Need-row-start-requires
+row-start-requires c κs = search needs
 
 returns-4 : tie.Need-returns-4
-unfolding isStore
 returns-4 c =
-    simp (
-      le-leb _ _ (c .before .before .before .before .before .before .before .before .before .if1 .left),
-      sym (c .before .before .before .before .before .before .before .before .header-in-range .ensures) ∙ not-false _ (c .before .before .before .before .before .before .before .if2 .left),
-      sym (c .before .before .before .before .before .before .header-zeros .ensures) ∙ not-false _ (c .before .before .before .before .before .if3 .left),
-      sym (c .before .before .before .wide .ensures .0),
-      sym (c .before .wide2 .ensures .0),
-      lt-leb _ _ (c .if4 .taken),
+    rw (
+      behind-header (c .before .before .before .before .before .before .before .before .before .before .before .before .args .room .now) _ _ (c .before .before .before .before .wide .ensures .0) (c .before .before .wide2 .ensures .0)
+          (le-leb _ _ (c .before .before .before .before .before .before .before .before .before .before .if1 .left))
+          (sym (c .before .before .before .before .before .before .before .before .before .header-in-range .ensures) ∙ not-false _ (c .before .before .before .before .before .before .before .before .if2 .left))
+          (sym (c .before .before .before .before .before .before .before .header-zeros .ensures) ∙ not-false _ (c .before .before .before .before .before .before .if3 .left)),
+      lt-leb _ _ (rw (c .before .row-start .ensures) at (c .if4 .taken)),
     )
 
 rows-allowed-requires : tie.Need-rows-allowed-requires
 rows-allowed-requires c κs = search needs
 
 returns-5 : tie.Need-returns-5
-unfolding isStore
 returns-5 c =
-    simp (
-      le-leb _ _ (c .before .before .before .before .before .before .before .before .before .before .if1 .left),
-      sym (c .before .before .before .before .before .before .before .before .before .header-in-range .ensures) ∙ not-false _ (c .before .before .before .before .before .before .before .before .if2 .left),
-      sym (c .before .before .before .before .before .before .before .header-zeros .ensures) ∙ not-false _ (c .before .before .before .before .before .before .if3 .left),
-      sym (c .before .before .before .before .wide .ensures .0),
-      sym (c .before .before .wide2 .ensures .0),
-      le-leb _ _ (c .before .if4 .left),
-      c .rows-allowed .ensures,
+    rw (
+      behind-header (c .before .before .before .before .before .before .before .before .before .before .before .before .before .args .room .now) _ _ (c .before .before .before .before .before .wide .ensures .0) (c .before .before .before .wide2 .ensures .0)
+          (le-leb _ _ (c .before .before .before .before .before .before .before .before .before .before .before .if1 .left))
+          (sym (c .before .before .before .before .before .before .before .before .before .before .header-in-range .ensures) ∙ not-false _ (c .before .before .before .before .before .before .before .before .before .if2 .left))
+          (sym (c .before .before .before .before .before .before .before .before .header-zeros .ensures) ∙ not-false _ (c .before .before .before .before .before .before .before .if3 .left)),
+      le-leb _ _ (rw (c .before .before .row-start .ensures) at (c .before .if4 .left)),
     )
+    (c .rows-allowed .ensures)
 
 pub is-store-spec : {M : Type 1} → statement M
 is-store-spec =
@@ -101,10 +95,7 @@ is-store-spec =
     wide-requires
     shared-slice-read-wide-2
     wide-requires-2
-    mul-if4
-    add-if4
-    mul-if4-2
-    add-if4-2
+    row-start-requires
     returns-4
     rows-allowed-requires
     returns-5)
