@@ -104,3 +104,10 @@ done-number (suc n) v w e = absurd (let z : _≡_ {A = ℕ} 0 1 = cc in omega ar
 
 pub done-room : (n : ℕ) (after room : List ℕ) → n ≡ 0 → after ≡ roomFor n after room
 done-room n after room e = rw e
+
+-- a reply that refuses leaves the room, and one that is done has the number 0
+pub refuses : (r : Reply) (w : Refusal) (k : ℕ) (v after room : List ℕ) → r ≡ Refused w → answerOf r ≡ answer k v → room ≡ roomFor k after room
+refuses r w k v after room q e = refused-room (numberOf w) k v after room (ap answerOf (sym q) ∙ e)
+
+pub does : (r : Reply) (k : ℕ) (v : List ℕ) → r ≡ Done → answerOf r ≡ answer k v → k ≡ 0
+does r k v q e = done-number k v [] (ap answerOf (sym q) ∙ e)
