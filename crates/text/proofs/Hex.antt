@@ -6,13 +6,17 @@ use mathlib.Core.List.{List, [], _∷_}
 use Prim.Native.Nat.{ℕ, suc, _+_, _*_, _/_, _%_, _≤_, _<_}
 use lib.ListN.{length, getD, drop, set, length-set, drop-of-length-le}
 use lib.Seq.{drop-cons}
-use Rattle.text.specs.Text.{putText, hexDigit, hexOf}
+use Rattle.text.specs.Text.{putText, hexDigit, hexOf, hex32}
 use Rattle.text.proofs.Puts.{putText-cons, putText-none}
 
 pub length-hexOf : (l : List ℕ) → length (hexOf l) ≡ 2 * length l
 unfolding hexOf
 length-hexOf [] = refl
 length-hexOf (b ∷ l) = omega (arith, length-hexOf l)
+
+pub length-hex32 : (x : ℕ) → length (hex32 x) ≡ 8
+unfolding hex32 hexOf
+length-hex32 x = refl
 
 pub hexOf-turn :
     (s : List ℕ) (at : ℕ) (l : List ℕ) (i h g : ℕ) → i < length l → at + 1 < length s

@@ -7,7 +7,7 @@ use mathlib.Core.List.{List, [], _∷_, _++_, append-assoc}
 use Prim.Native.Nat.{ℕ, suc, _+_, _≤_, _<_}
 use lib.ListN.{length, getD, take, drop, set, length-append, length-take, length-drop, take-append-drop, drop-of-length-le}
 use lib.Seq.{set-split, take-at, drop-at, drop-drop, drop-cons}
-use Rattle.text.specs.Text.{putText}
+use Rattle.text.specs.Text.{putText, Put}
 
 pub length-putText : (s : List ℕ) (at : ℕ) (t : List ℕ) → at + length t ≤ length s → length (putText s at t) ≡ length s
 unfolding putText
@@ -64,3 +64,23 @@ putText-turn s at q t i h g e =
 
 pub putText-done : (s : List ℕ) (at : ℕ) (t : List ℕ) (i : ℕ) → length t ≤ i → putText s at (drop i t) ≡ s
 putText-done s at t i h = rw (drop-of-length-le t h) (putText-none s at)
+
+-- the second text at the place behind the first
+pub put-then : {s s' s'' t u : List ℕ} {at r r' : ℕ} → Put s at t s' r → Put s' r u s'' r' → Put s at (t ++ u) s'' r'
+put-then {s} {s'} {s''} {t} {u} {at} {r} {r'} p q =
+    record {
+      bytes = q .bytes ∙ rw (p .bytes, p .place) (putText-then s at t u (p .fits));
+      place = rw (q .place, p .place, length-append t u) (omega arith);
+      fits = rw (length-append t u) (omega (arith, length-put p));
+    }
+  where
+    length-put : Put s at t s' r → length s' ≡ length s
+    length-put p = ap length (p .bytes) ∙ length-putText s at t (p .fits)
+
+-- no text
+pub put-none : (s : List ℕ) (at : ℕ) → at ≤ length s → Put s at [] s at
+put-none s at h = record { bytes = sym (putText-none s at); place = omega arith; fits = omega arith }
+
+-- a text put leaves one outcome
+pub put-one : {s t s' s'' : List ℕ} {at r r' : ℕ} → Put s at t s' r → Put s at t s'' r' → (s' ≡ s'') × (r ≡ r')
+put-one p q = (p .bytes ∙ sym (q .bytes), p .place ∙ sym (q .place))

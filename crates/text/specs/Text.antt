@@ -1,5 +1,6 @@
 -- Numbers and bytes as ASCII text: decimal, lower-case hex, and a text put into bytes at a place.
-use Prim.Native.Nat.{ℕ, zero, suc, _+_, _/_, _%_}
+use Prim.Native.Nat.{ℕ, zero, suc, _+_, _/_, _%_, _≤_}
+use mathlib.Core.Path.{_≡_}
 use mathlib.Core.Bool.{cond}
 use mathlib.Core.List.{List, [], _∷_, _++_}
 use lib.ListN.{length, take, drop}
@@ -8,6 +9,12 @@ use lib.Dec.{ltb}
 -- the bytes with the text t from `at` on
 unfoldable pub putText : List ℕ → ℕ → List ℕ → List ℕ
 putText s at t = take at s ++ (t ++ drop (at + length t) s)
+
+-- what putting the text t leaves: the bytes with it, and the place behind it, within the bytes
+pub record Put (s : List ℕ) (at : ℕ) (t s' : List ℕ) (next : ℕ) : Type 0 where
+  pub bytes : s' ≡ putText s at t
+  pub place : next ≡ at + length t
+  pub fits : at + length t ≤ length s
 
 -- the decimal digits of x, of which there are at most one more than so many
 unfoldable pub decimalIn : ℕ → ℕ → List ℕ

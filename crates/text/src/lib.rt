@@ -2,12 +2,12 @@
 ghost use mathlib.Core.Path.{_≡_};
 ghost use Prim.Native.Nat.{_+_, _*_, _≤_, _<_};
 ghost use lib.ListN.{length};
-ghost use Rattle.text.specs.Text.{putText, decimal, hexDigit, hexOf, hex32};
+ghost use Rattle.text.specs.Text.{Put, decimal, hexDigit, hexOf, hex32};
 
 // A text as it stands.
 pub fn put_bytes(out: &mut [u8], at: usize, text: &[u8]) -> usize
     requires { ⌜ at + length (now text) ≤ length (now out) ⌝ }
-    ensures { λ r. ⌜ (now (out .exit) ≡ putText (now (out .entry)) at (now (text .entry))) × (r ≡ at + length (now (text .entry))) ⌝ }
+    ensures { λ r. ⌜ Put (now (out .entry)) at (now (text .entry)) (now (out .exit)) r ⌝ }
 {
     let mut i = 0;
     while i < text.len() {
@@ -20,7 +20,7 @@ pub fn put_bytes(out: &mut [u8], at: usize, text: &[u8]) -> usize
 // A number in decimal. The longest has ten digits.
 pub fn put_decimal(out: &mut [u8], at: usize, x: u32) -> usize
     requires { ⌜ at + 10 ≤ length (now out) ⌝ }
-    ensures { λ r. ⌜ (now (out .exit) ≡ putText (now (out .entry)) at (decimal x)) × (r ≡ at + length (decimal x)) × (r ≤ at + 10) ⌝ }
+    ensures { λ r. ⌜ (Put (now (out .entry)) at (decimal x) (now (out .exit)) r) × (r ≤ at + 10) ⌝ }
 {
     if x < 10 {
         out[at] = b'0' + x as u8;
@@ -44,7 +44,7 @@ fn hex_digit(d: u8) -> u8
 // Bytes in hex, two digits each.
 pub fn put_hex(out: &mut [u8], at: usize, bytes: &[u8]) -> usize
     requires { ⌜ at + 2 * length (now bytes) ≤ length (now out) ⌝ }
-    ensures { λ r. ⌜ (now (out .exit) ≡ putText (now (out .entry)) at (hexOf (now (bytes .entry)))) × (r ≡ at + 2 * length (now (bytes .entry))) ⌝ }
+    ensures { λ r. ⌜ Put (now (out .entry)) at (hexOf (now (bytes .entry))) (now (out .exit)) r ⌝ }
 {
     let mut to = at;
     let mut i = 0;
@@ -61,7 +61,7 @@ pub fn put_hex(out: &mut [u8], at: usize, bytes: &[u8]) -> usize
 // A number in hex, eight digits.
 pub fn put_hex32(out: &mut [u8], at: usize, x: u32) -> usize
     requires { ⌜ at + 8 ≤ length (now out) ⌝ }
-    ensures { λ r. ⌜ (now (out .exit) ≡ putText (now (out .entry)) at (hex32 x)) × (r ≡ at + 8) ⌝ }
+    ensures { λ r. ⌜ Put (now (out .entry)) at (hex32 x) (now (out .exit)) r ⌝ }
 {
     let bytes = [
         (x / 16777216) as u8,

@@ -61,8 +61,11 @@ put-decimal-returns : (t : ℕ) → put-decimal-lts.Need-returns (
 put-decimal-returns t c =
     let a = c .before .before .args in
     let h = c .if1 .taken in (
-      putText-digit (a .out .now) (a .at) (a .x) h (omega arith),
-      rw (decimal-one (a .x) h) refl,
+      record {
+        bytes = putText-digit (a .out .now) (a .at) (a .x) h (omega arith);
+        place = rw (decimal-one (a .x) h) refl;
+        fits = rw (decimal-one (a .x) h) (omega arith);
+      },
       omega arith,
     )
 
@@ -111,9 +114,14 @@ put-decimal-returns-2 t c =
     let a = c .before .before .before .before .before .before .args in
     let h = c .before .before .before .before .if1 .left in
     let m = c .before .before .put-decimal in
-    let k = decimal-short 8 (a .x / 10) (omega arith) in (
-      putText-digits (a .out .now) (m .last .0) (a .at) (a .x) (m .result) h (omega arith) (m .ensures .0) (m .ensures .1),
-      omega (arith, length-digits (a .x) h),
+    let k = decimal-short 8 (a .x / 10) (omega arith) in
+    let l = length-digits (a .x) h in (
+      record {
+        bytes =
+            putText-digits (a .out .now) (m .last .0) (a .at) (a .x) (m .result) h (omega arith) (m .ensures .0 .bytes) (m .ensures .0 .place);
+        place = omega arith;
+        fits = omega arith;
+      },
       omega arith,
     )
 

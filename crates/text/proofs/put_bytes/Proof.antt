@@ -56,7 +56,11 @@ same-length c = c .before .loop .inv .1 .0
 returns : tie.Need-returns Inv-loop μ-loop
 returns c =
     let h = c .before .loop in
-    (sym (h .inv .1 .1 ∙ putText-done (h .out) _ (c .before .before .args .text .now) (h .i) (c .loop-test .left)), omega arith)
+    record {
+      bytes = sym (h .inv .1 .1 ∙ putText-done (h .out) _ (c .before .before .args .text .now) (h .i) (c .loop-test .left));
+      place = omega arith;
+      fits = c .before .before .pre;
+    }
 
 pub put-bytes-spec : {M : Type 1} → statement M
 put-bytes-spec =

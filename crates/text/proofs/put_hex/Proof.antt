@@ -4,7 +4,7 @@ use mathlib.Core.Path.{_≡_, refl, sym, _∙_}
 use Prim.Native.Nat.{_+_, _*_, _-_, _≤_}
 use lib.ListN.{length, drop, length-set}
 use Rattle.text.specs.Text.{putText, hexOf}
-use Rattle.text.proofs.Hex.{hexOf-turn, hexOf-done}
+use Rattle.text.proofs.Hex.{length-hexOf, hexOf-turn, hexOf-done}
 use Rattle.text.proofs.put_hex.Statement.{statement}
 use Rattle.text.proofs.put_hex.Tie as tie
 
@@ -68,7 +68,12 @@ same-length c = c .before .loop .inv .1 .1 .0
 returns : tie.Need-returns Inv-loop μ-loop
 returns c =
     let h = c .before .loop in
-    (sym (h .inv .1 .1 .1 ∙ hexOf-done (h .out) (h .to) _ (h .i) (c .loop-test .left)), omega arith)
+    let l = length-hexOf (c .before .before .before .before .args .bytes .now) in
+    record {
+      bytes = sym (h .inv .1 .1 .1 ∙ hexOf-done (h .out) (h .to) _ (h .i) (c .loop-test .left));
+      place = omega (arith, l);
+      fits = omega (arith, l);
+    }
 
 pub put-hex-spec : {M : Type 1} → statement M
 put-hex-spec =

@@ -1,0 +1,34 @@
+-- "Bench program": the kinds of record, the length of each one's body, and its letter.
+use Prim.Native.Nat.{ℕ}
+use mathlib.Core.Bool.{cond}
+use mathlib.Core.List.{List, [], _∷_}
+use lib.Dec.{eqb}
+use Rattle.lines.specs.declared.Kind.{Kind}
+use Rattle.lines.specs.declared.Kind.the-variants.{Word, Tag, Reset, Ced, Timing, Fresh, Unknown}
+
+-- "1 word", "2 tag", "3 reset", "4 ask CED, 5 ask timing", "6 fresh"
+unfoldable pub kindOf : ℕ → Kind
+kindOf b =
+    cond (eqb b 1) Word
+    (cond (eqb b 2) Tag
+    (cond (eqb b 3) Reset (cond (eqb b 4) Ced (cond (eqb b 5) Timing (cond (eqb b 6) Fresh Unknown)))))
+
+-- "a body whose length the kind fixes"; an unknown kind is answered without one
+abbrev pub bodyLength : Kind → ℕ
+bodyLength Word = 24
+bodyLength Tag = 12
+bodyLength Reset = 0
+bodyLength Ced = 1
+bodyLength Timing = 1
+bodyLength Fresh = 2
+bodyLength Unknown = 0
+
+-- "letter w, t, r, c, p, f", and x, each with the space behind it
+abbrev pub letterOf : Kind → List ℕ
+letterOf Word = 119 ∷ 32 ∷ []
+letterOf Tag = 116 ∷ 32 ∷ []
+letterOf Reset = 114 ∷ 32 ∷ []
+letterOf Ced = 99 ∷ 32 ∷ []
+letterOf Timing = 112 ∷ 32 ∷ []
+letterOf Fresh = 102 ∷ 32 ∷ []
+letterOf Unknown = 120 ∷ 32 ∷ []
