@@ -1,0 +1,9 @@
+pub mod Agree
+pub mod Records
+pub mod Calls
+pub mod OneMore
+pub mod Asked
+pub mod Demand
+pub mod Claim
+pub mod Cap
+pub mod Steps

@@ -1,0 +1,125 @@
+-- "Line and break": the line of a record followed back in time, its breaks, and the tags that count on it.
+use Prim.Native.Nat.{ℕ, _+_, _<_}
+use mathlib.Core.Bool.{Bool, true, false, cond, not, _&&_, _||_}
+use mathlib.Core.List.{List, [], _∷_, _++_}
+use lib.Dec.{eqb}
+use Rattle.paper.specs.Number.{number}
+use Rattle.paper.specs.Time.{startOf}
+use Rattle.paper.specs.Record.{Family, CED, Timing, satellite, dataOf, sameBits}
+use Rattle.paper.specs.Room.{depth, slots, current, rowOf, recordOf}
+use Rattle.paper.specs.Feed.{nextRow, moves}
+use Rattle.paper.specs.Tag.{familyOf, candidateRecord}
+use Rattle.paper.specs.Call.{Call, freshCall, feedCall, tagCall, candidateCall, askCall, resetCall, answerTo, roomAfter, run}
+
+-- "one slot number in one family", in a row
+pub record Place : Type 0 where
+  pub family : Family
+  pub row : ℕ
+  pub slot : ℕ
+
+-- "inside D and N"
+pub record Inside (room : List ℕ) (place : Place) : Type 0 where
+  pub row : place .row < depth room
+  pub slot : place .slot < slots room
+
+-- the record at a place
+abbrev pub at : List ℕ → Place → List ℕ
+at room place = recordOf (place .family) (place .slot) (rowOf (place .row) room)
+
+-- "answered 0"
+abbrev pub succeeds : Call → List ℕ → Bool
+succeeds call room = eqb (number (answerTo call room)) 0
+
+-- "that row was last filled by a copy": by this call, which moved the ring
+unfoldable pub fills : Call → List ℕ → ℕ → Bool
+fills (freshCall d n) room row = false
+fills (feedCall word sat w t band) room row =
+    succeeds (feedCall word sat w t band) room
+    && moves w (startOf t) room
+    && eqb row (nextRow (depth room) (current room))
+fills (tagCall sat kind cop l status w t given verdict) room row = false
+fills (candidateCall sat kind cop w t) room row = false
+fills (askCall f sat) room row = false
+fills resetCall room row = false
+
+-- "a record's past is its own row's slot, and before that row was last filled by a copy, the same slot of the row copied from"
+abbrev pub past : Call → List ℕ → Place → Place
+past call room place =
+    record {
+      family = place .family;
+      row = cond (fills call room (place .row)) (current room) (place .row);
+      slot = place .slot;
+    }
+
+-- "resets counts"
+unfoldable pub resets : Call → List ℕ → Bool
+resets (freshCall d n) room = false
+resets (feedCall word sat w t band) room = false
+resets (tagCall sat kind cop l status w t given verdict) room = false
+resets (candidateCall sat kind cop w t) room = false
+resets (askCall f sat) room = false
+resets resetCall room = succeeds resetCall room
+
+-- two records with the same satellite and "all its bits", the 549 or 141
+unfoldable pub same : Family → List ℕ → List ℕ → Bool
+same f x y = eqb (satellite x) (satellite y) && sameBits f (dataOf f x) (dataOf f y)
+
+-- "A break is a call that changes the line's bits, changes its satellite, or resets counts."
+unfoldable pub broken : Call → List ℕ → Place → Bool
+broken call room place =
+    resets call room || not (same (place .family) (at (roomAfter call room) place) (at room (past call room place)))
+
+-- "A fresh call that succeeds begins a new history."
+unfoldable pub begins : Call → List ℕ → Bool
+begins (freshCall d n) room = succeeds (freshCall d n) room
+begins (feedCall word sat w t band) room = false
+begins (tagCall sat kind cop l status w t given verdict) room = false
+begins (candidateCall sat kind cop w t) room = false
+begins (askCall f sat) room = false
+begins resetCall room = false
+
+-- a tag: "satellite", "the data the verdict was formed over, the verdict", "length"
+pub record Tag : Type 0 where
+  pub satellite : ℕ
+  pub given : List ℕ
+  pub verdict : Bool
+  pub length : ℕ
+
+-- "of the tag's family"
+abbrev pub sameFamily : Family → Family → Bool
+sameFamily CED CED = true
+sameFamily CED Timing = false
+sameFamily Timing CED = false
+sameFamily Timing Timing = true
+
+-- "A tag answered 0 counts on a line if, when it came, the line's record was of the tag's family and held the candidate's satellite
+-- and all its bits."
+unfoldable pub counted : Call → List ℕ → Place → List Tag
+counted (freshCall d n) room place = []
+counted (feedCall word sat w t band) room place = []
+counted (tagCall sat kind cop l status w t given verdict) room place =
+    let candidate = candidateRecord (familyOf kind) sat w t room in
+    cond
+    (succeeds (tagCall sat kind cop l status w t given verdict) room
+    && sameFamily (familyOf kind) (place .family)
+    && same (place .family) (at room place) candidate)
+    (record { satellite = sat; given = given; verdict = verdict; length = l } ∷ [])
+    []
+counted (candidateCall sat kind cop w t) room place = []
+counted (askCall f sat) room place = []
+counted resetCall room place = []
+
+-- "A line .. followed back in time": the tags that count on the line of a place after some calls, the latest first, since its last
+-- break or since the fresh call that began its history
+unfoldable pub tags : List ℕ → List Call → Place → List Tag
+tags room [] place = []
+tags room (call ∷ before) place =
+    let then = run room before in
+    let was = past call then place in
+    let earlier = counted call then was ++ tags room before was in
+    cond (begins call then || broken call then place) [] earlier
+
+-- the sum of the lengths
+unfoldable pub total : List Tag → ℕ
+total [] = 0
+total (tag ∷ rest) = tag .length + total rest
