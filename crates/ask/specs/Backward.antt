@@ -1,0 +1,35 @@
+-- Where the row that answers and its record start in the room.
+use Prim.Native.Nat.{ℕ}
+use mathlib.Core.Bool.{Bool, true, false}
+use mathlib.Core.List.{List}
+use lib.Dec.{ltb}
+use Rattle.paper.specs.Record.{Family}
+use Rattle.paper.specs.Room.{depth, slots, current, rowAt, rowOf}
+use Rattle.paper.specs.Ask.{enoughSlot, rowBack, stepsBack, someEnough}
+use Rattle.lookup.specs.Candidate.{placeOf}
+use Rattle.ask.specs.declared.Place.{Place}
+use Rattle.ask.specs.declared.Place.the-variants.{At, Nothing}
+
+abbrev pub pick : Bool → Place → Place → Place
+pick true a b = a
+pick false a b = b
+
+-- of the row j before the current one: where it starts, and its first record that answers
+unfoldable pub placeBack : Family → ℕ → ℕ → List ℕ → Place
+placeBack f sat j room =
+    let r = rowBack (depth room) (current room) j in
+    let i = enoughSlot f sat (slots room) (rowOf r room) in
+    pick (ltb i (slots room)) (At (rowAt (slots room) r) (placeOf f r i room)) Nothing
+
+-- the number of the row that answers, and of its slot
+abbrev pub rowAnswering : Family → ℕ → List ℕ → ℕ
+rowAnswering f sat room = rowBack (depth room) (current room) (stepsBack f sat room)
+
+abbrev pub slotAnswering : Family → ℕ → List ℕ → ℕ
+slotAnswering f sat room = enoughSlot f sat (slots room) (rowOf (rowAnswering f sat room) room)
+
+unfoldable pub answeringAt : Family → ℕ → List ℕ → Place
+answeringAt f sat room =
+    pick (someEnough f sat room)
+    (At (rowAt (slots room) (rowAnswering f sat room)) (placeOf f (rowAnswering f sat room) (slotAnswering f sat room) room))
+    Nothing
