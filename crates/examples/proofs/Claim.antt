@@ -4,8 +4,8 @@ use Prim.Native.Nat.{ℕ}
 use mathlib.Core.Path.{_≡_, refl, _∙_, ap}
 use mathlib.Core.Bool.{Bool, true, false, _&&_}
 use mathlib.Core.List.{List, [], _∷_}
-use lib.Dec.{T, eqb, eqb→eq}
-use mir.Facts.{and-yes}
+use Rattle.paper.proofs.StoreFacts.{both-true}
+use Rattle.paper.proofs.Same.{list-true}
 use Rattle.paper.specs.Time.{timeAt, sumOf, addSeconds, addSubframes, subframeOf, difference}
 use Rattle.paper.specs.Bits.{putBit, moved, changed}
 use Rattle.paper.specs.Parts.{onPart, onParts, allParts, sumParts, firstFrom}
@@ -23,28 +23,16 @@ use Rattle.paper.specs.Call.{answerTo, roomAfter, run}
 use Rattle.examples.specs.Row.{Row, Every, every, lastAnswer, after, at, satellites, word}
 use Rattle.examples.specs.Table.{table, cedData, five, tag, accepted, later, laterAccepted, times, places, tags, backward, nearMisses}
 
--- lists that pass the test are the same
-same : (a b : List ℕ) → T (sameList a b) → a ≡ b
-unfolding sameList
-same [] [] t = refl
-same [] (y ∷ ys) t = absurd t
-same (x ∷ xs) [] t = absurd t
-same (x ∷ xs) (y ∷ ys) t =
-    let both = and-yes (eqb x y) (sameList xs ys) t in
-    let p : x ≡ y = eqb→eq x y (both .0) in
-    let q : xs ≡ ys = same xs ys (both .1) in
-    cc
-
-each : (rows : List Row) → T (every rows) → Every rows
+each : (rows : List Row) → every rows ≡ true → Every rows
 unfolding every
 each [] t = tt
 each (r ∷ rs) t =
-    let both = and-yes (sameList (r .given) (r .said)) (every rs) t in
-    (same (r .given) (r .said) (both .0), each rs (both .1))
+    let both = both-true (sameList (r .given) (r .said)) (every rs) t in
+    (list-true (r .given) (r .said) (both .0), each rs (both .1))
 
-computed : T (every table)
+computed : every table ≡ true
 unfolding every table cedData five tag accepted later laterAccepted times places tags backward nearMisses lastAnswer after at satellites word answerTo roomAfter run freshNumber freshRoom feedNumber feedRoom untilCandidate tagNumber tagAnswer tagRoom askNumber askAnswer hasEnough enoughSlot rowBack stepsBack answeringRow answeringRecord someEnough timeBefore familyOf lengthAllowed thirtyBefore firstRow firstSlot candidateRow candidateSlot candidateRecord fitsCop hasCandidate givenAgrees matches credited tagged takenBy nextRow moves copied agedRow advanced markedAt currentMarked settled key lastGreatest chosen fedFamily fedRow fed blankSlot blankRow fresh headerInRange headerZeros satelliteAllowed countHasSatellite noBitPast recordAllowed slotAllowed markAllowed subframeAllowed blankAllowed mostIn rowAllowed isStore eachRecord everyRecord howMany howManyIn words ownedIn taken written fedRecord sameList sameBits aged greatest least blankRecord be16 be32 put16 put32 onPart onParts allParts sumParts firstFrom putBit moved changed timeAt sumOf addSeconds addSubframes subframeOf difference
-computed = tt
+computed = refl
 
 -- every starred example of document 01, and every near miss, comes out as the paper says
 pub examples : Every table

@@ -13,31 +13,9 @@ use lib.Seq.{length-take-le, getD-take, getD-at, ext-getD}
 use Rattle.paper.specs.Bits.{moved, changed}
 use Rattle.paper.specs.Record.{Family, CED, Timing, recordBits, dataBytes, satellite, dataOf, inBits, sameList, sameBits}
 use Rattle.paper.proofs.Bits.{length-moved, changed-not, not-changed, last-kept}
+use Rattle.paper.proofs.Same.{bits-true, true-bits}
 use Rattle.paper.proofs.StoreFacts.{both-true}
 use Rattle.history.specs.Line.{same}
-
--- ---- lists and bits
-list-true : (a b : List ℕ) → sameList a b ≡ true → a ≡ b
-unfolding sameList
-list-true [] [] e = refl
-list-true [] (y ∷ ys) e = cc
-list-true (x ∷ xs) [] e = cc
-list-true (x ∷ xs) (y ∷ ys) e =
-    let p = both-true (eqb x y) (sameList xs ys) e in
-    cc (eqb-true x y (p .0), list-true xs ys (p .1))
-
-list-same : (a : List ℕ) → sameList a a ≡ true
-unfolding sameList
-list-same [] = refl
-list-same (x ∷ xs) = rw (eq-eqb x x refl) (list-same xs)
-
-pub bits-true : (f : Family) (a b : List ℕ) → sameBits f a b ≡ true → inBits f a ≡ inBits f b
-unfolding sameBits
-bits-true f a b e = list-true (inBits f a) (inBits f b) e
-
-pub true-bits : (f : Family) (a b : List ℕ) → inBits f a ≡ inBits f b → sameBits f a b ≡ true
-unfolding sameBits
-true-bits f a b e = ap (λ (x : List ℕ). sameList x (inBits f b)) e ∙ list-same (inBits f b)
 
 -- ---- records
 pub same-true : (f : Family) (x y : List ℕ) → same f x y ≡ true → (satellite x ≡ satellite y) × (inBits f (dataOf f x) ≡ inBits f (dataOf f y))

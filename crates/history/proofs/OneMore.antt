@@ -19,7 +19,8 @@ use Rattle.paper.proofs.WordViews.{rowAhead}
 use Rattle.paper.proofs.StoreFacts.{both-true, store-facts}
 use Rattle.history.specs.Line.{Place, Inside, at, succeeds, fills, past, resets, same, broken, begins, Tag, sameFamily, counted, total}
 use Rattle.history.specs.Demand.{EachFor, Earned}
-use Rattle.history.proofs.Agree.{bits-true, true-bits, same-true, true-same}
+use Rattle.paper.proofs.Same.{bits-true, true-bits}
+use Rattle.history.proofs.Agree.{same-true, true-same}
 use Rattle.history.proofs.Records.{Kept, alike-kept}
 use Rattle.history.proofs.Calls.{fresh-after, feed-after, tag-after, reset-after, fresh-none, fed-at, fed-inside, Tagged, one-family, tagged-at, tagged-inside, Accepted, tag-accepted, reset-succeeds, reset-none, reset-inside}
 

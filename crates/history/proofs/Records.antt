@@ -15,7 +15,8 @@ use Rattle.paper.proofs.Views.{record-parts}
 use Rattle.paper.proofs.Lengths.{keeps-taken}
 use Rattle.paper.proofs.RecordViews.{heldOrFree, taken-satellite, taken-count, taken-data, InRecord, owned-inRecord, written-satellite, written-count, written-data}
 use Rattle.history.specs.Line.{same}
-use Rattle.history.proofs.Agree.{true-bits, true-same, moved-bits}
+use Rattle.paper.proofs.Same.{true-bits}
+use Rattle.history.proofs.Agree.{true-same, moved-bits}
 
 -- the record x became y: its count stays where its satellite and its bits do, and is 0 where not
 abbrev pub Kept : Family → List ℕ → List ℕ → Type 0

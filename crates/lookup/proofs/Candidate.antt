@@ -24,6 +24,7 @@ use Rattle.lookup.proofs.Places.{place-inside, place-record, place-data
 -- what a caller learns of the place x that is answered
 pub record Shown (f : Family) (sat cop w t : ℕ) (room : List ℕ) (x : ℕ) : Type 0 where
   pub has : hasCandidate f sat cop w t room ≡ true
+  pub place : x ≡ placeOf f (candidateRow w t room) (candidateSlot f sat w t room) room
   pub inside : x + size f ≤ length room
   pub here : part x (size f) room ≡ candidateRecord f sat w t room
   pub bytes : part (x + dataAt f) (dataBytes f) room ≡ dataOf f (candidateRecord f sat w t room)
@@ -78,6 +79,7 @@ module _ (f : Family) (sat cop w t w' t' : ℕ) (room : List ℕ) (before : valu
       let l = in-rows (p .0) in
       record {
         has = p .0;
+        place = p .1;
         inside = rw (p .1) (place-inside f (candidateRow w t room) (candidateSlot f sat w t room) room (l .1) F (l .0));
         here = rw (p .1) (place-record f (candidateRow w t room) (candidateSlot f sat w t room) room (l .1));
         bytes = rw (p .1) (place-data f (candidateRow w t room) (candidateSlot f sat w t room) room (l .1));

@@ -10,3 +10,4 @@ pub mod WordViews
 pub mod CallViews
 pub mod StoreFacts
 pub mod RecordViews
+pub mod Same

@@ -1,0 +1,3 @@
+pub mod Order
+pub mod Accepts
+pub mod Determined

@@ -1,0 +1,31 @@
+-- `tag_allowed` tests the COP and then the length.
+use native.Mathlib.Omega.{arith}
+use borrow.Author.Needs.{needs}
+use borrow.Author.Tests.{eq-eqb, ne-eqb, not-true, not-false}
+use mathlib.Core.Path.{_≡_, refl, sym, ap, _∙_}
+use mathlib.Core.Bool.{Bool, true, false}
+use mathlib.Core.List.{List, []}
+use Prim.Native.Nat.{ℕ, _+_, _-_}
+use Rattle.tags.proofs.tag_allowed.Statement.{statement}
+use Rattle.tags.proofs.tag_allowed.Tie as tie
+
+cop-allowed-requires : tie.Need-cop-allowed-requires
+cop-allowed-requires c κs = tt
+
+returns : tie.Need-returns
+returns c = rw (sym (c .before .cop-allowed .ensures) ∙ not-true _ (c .if1 .taken))
+
+length-allowed-requires : tie.Need-length-allowed-requires
+length-allowed-requires c κs = tt
+
+returns-2 : tie.Need-returns-2
+returns-2 c = rw (sym (c .before .before .cop-allowed .ensures) ∙ not-false _ (c .before .if1 .left)) (c .length-allowed .ensures)
+
+pub tag-allowed-spec : {M : Type 1} → statement M
+tag-allowed-spec =
+    tie.close
+    (tie.spec
+    cop-allowed-requires
+    returns
+    length-allowed-requires
+    returns-2)
