@@ -9,6 +9,7 @@ use lib.ListN.{length, take, drop}
 use Rattle.paper.specs.Record.{Family, size}
 use Rattle.paper.specs.Room.{rowSize, depth, slots, current, rowAt, rowOf, recordAt}
 use Rattle.paper.specs.Ask.{enoughSlot, rowBack}
+use Rattle.paper.proofs.Parts.{length-lent}
 use Rattle.paper.proofs.Views.{Facts}
 use Rattle.rows.proofs.Where.{back-below, row-ends, row-lent}
 use Rattle.lookup.specs.declared.Found.{Found}
@@ -21,50 +22,67 @@ use Rattle.ask.specs.declared.Place.the-variants.{At, Nothing}
 use Rattle.ask.specs.Backward.{placeBack}
 use Rattle.ask.proofs.Heads.{answersAt}
 
-module _ (room : List ℕ) (d n c j r start long : ℕ) (ed : d ≡ depth room) (en : n ≡ slots room) (ec : c ≡ current room) (er : r ≡ rowBack d c j)
-    (es : start ≡ rowAt n r) (ez : long ≡ rowSize n) where
-  step-below : Facts room → j < d → r < depth room
-  step-below F h = rw (er, ed, ec) (back-below (depth room) (current room) j (F .inRing) (rw ed at h))
+-- what the code knows of row r, j rows before row c of d: it is lent as `room[start..start + long]`
+pub record Step (room : List ℕ) (d n c j r start long : ℕ) : Type 0 where
+  pub facts : Facts room
+  pub rows : d ≡ depth room
+  pub count : n ≡ slots room
+  pub row : c ≡ current room
+  pub below : j < d
+  pub back : r ≡ rowBack d c j
+  pub from : start ≡ rowAt n r
+  pub wide : long ≡ rowSize n
 
-  pub step-ends : Facts room → j < d → start + long ≤ length room
-  step-ends F h = row-ends room n r start long en es ez F (step-below F h)
+module _ {room : List ℕ} {d n c j r start long : ℕ} (s : Step room d n c j r start long) where
+  abbrev number : ℕ
+  number = rowBack (depth room) (current room) j
 
-  pub step-row : take (start + long - start) (drop start room) ≡ rowOf (rowBack (depth room) (current room) j) room
-  step-row = row-lent room n r start long en es ez ∙ rw (er, ed, ec)
+  number-below : number < depth room
+  number-below = back-below (depth room) (current room) j (s .facts .inRing) (rw (s .rows) at (s .below))
 
-  pub step-test : (f : Family) (sat : ℕ) (b : Bool) → b ≡ ltb (enoughSlot f sat n (take (start + long - start) (drop start room))) n → b ≡ answersAt f sat room j
-  step-test f sat b e = e ∙ rw (step-row, en)
+  is-number : r ≡ number
+  is-number = rw (s .back, s .rows, s .row)
+
+  pub step-ends : start + long ≤ length room
+  step-ends = row-ends room n r start long (s .count) (s .from) (s .wide) (s .facts) (rw is-number number-below)
+
+  pub step-length : length (take (start + long - start) (drop start room)) ≡ rowSize n
+  step-length = length-lent start long room step-ends ∙ s .wide
+
+  step-row : take (start + long - start) (drop start room) ≡ rowOf number room
+  step-row = row-lent room n r start long (s .count) (s .from) (s .wide) ∙ rw is-number
+
+  pub step-test : (f : Family) (sat : ℕ) {b : Bool} → b ≡ ltb (enoughSlot f sat n (take (start + long - start) (drop start room))) n → b ≡ answersAt f sat room j
+  step-test f sat e = e ∙ rw (step-row, s .count)
 
   -- the slot of that row that answers, if one does
-  module _ (f : Family) (sat : ℕ) (a : Found) (ea : a ≡ found n (enoughSlot f sat n (take (start + long - start) (drop start room)))) where
+  module _ (f : Family) (sat : ℕ) {a : Found} (ea : a ≡ found n (enoughSlot f sat n (take (start + long - start) (drop start room)))) where
     abbrev slot : ℕ
-    slot = enoughSlot f sat (slots room) (rowOf (rowBack (depth room) (current room) j) room)
+    slot = enoughSlot f sat (slots room) (rowOf number room)
 
     answer : a ≡ found (slots room) slot
-    answer = ea ∙ rw (step-row, en)
+    answer = ea ∙ rw (step-row, s .count)
 
     pub place-none : a ≡ None → Nothing ≡ placeBack f sat j room
     unfolding placeBack
     place-none e = rw (found-not (slots room) slot (sym answer ∙ e))
 
-    module _ (x : ℕ) (ex : a ≡ Slot x) where
+    module _ {x : ℕ} (ex : a ≡ Slot x) where
       is-slot : (x ≡ slot) × (slot < slots room)
       is-slot = found-at (slots room) slot x (sym answer ∙ ex)
 
       pub place-slot : x < n
-      place-slot = rw (is-slot .0, en) (is-slot .1)
+      place-slot = rw (is-slot .0, s .count) (is-slot .1)
 
-      module _ (at : ℕ) (eat : at ≡ recordAt f x) where
-        is-start : start ≡ rowAt (slots room) (rowBack (depth room) (current room) j)
-        is-start = rw (es, er, ed, en, ec)
+      module _ {at : ℕ} (eat : at ≡ recordAt f x) where
+        is-start : start ≡ rowAt (slots room) number
+        is-start = rw (s .from, is-number, s .count)
 
-        is-place : start + at ≡ placeOf f (rowBack (depth room) (current room) j) slot room
+        is-place : start + at ≡ placeOf f number slot room
         is-place = rw (is-start, eat, is-slot .0)
 
-        pub place-inside : Facts room → j < d → start + at + size f ≤ length room
-        place-inside F h =
-            rw is-place
-            (inside f (rowBack (depth room) (current room) j) slot room (is-slot .1) F (back-below (depth room) (current room) j (F .inRing) (rw ed at h)))
+        pub place-inside : start + at + size f ≤ length room
+        place-inside = rw is-place (inside f number slot room (is-slot .1) (s .facts) number-below)
 
         pub place-here : At start (start + at) ≡ placeBack f sat j room
         unfolding placeBack

@@ -11,7 +11,7 @@ use Rattle.paper.specs.Record.{Family, size}
 use Rattle.paper.specs.Room.{rowSize, depth, slots, rowAt, rowOf, recordAt, recordOf}
 use Rattle.paper.specs.Tag.{firstSlot, fitsCop}
 use Rattle.paper.proofs.Views.{Facts}
-use Rattle.rows.proofs.Where.{row-lent}
+use Rattle.rows.proofs.Where.{row-ends, row-lent}
 use Rattle.lookup.specs.declared.Found.{Found}
 use Rattle.lookup.specs.declared.Found.the-variants.{At, Nothing}
 use Rattle.lookup.specs.Found.{found}
@@ -19,43 +19,52 @@ use Rattle.lookup.specs.Candidate.{placeOf, candidateIn}
 use Rattle.lookup.proofs.Search.{found-at, found-not}
 use Rattle.lookup.proofs.Places.{place-inside, place-record}
 
-module _ (f : Family) (sat cop r : ℕ) (room : List ℕ) (n start long : ℕ) (en : n ≡ slots room) (es : start ≡ rowAt n r) (ez : long ≡ rowSize n)
-    (a : Found) (ea : a ≡ found n (firstSlot f sat n (take (start + long - start) (drop start room)))) where
-  abbrev slot : ℕ
-  slot = firstSlot f sat (slots room) (rowOf r room)
+-- what the code knows of row r: it is lent as `room[start..start + long]`
+pub record Lent (room : List ℕ) (r n start long : ℕ) : Type 0 where
+  pub facts : Facts room
+  pub below : r < depth room
+  pub count : n ≡ slots room
+  pub from : start ≡ rowAt n r
+  pub wide : long ≡ rowSize n
 
-  answer : a ≡ found (slots room) slot
-  answer = ea ∙ rw (row-lent room n r start long en es ez, en)
+module _ {room : List ℕ} {r n start long : ℕ} (s : Lent room r n start long) where
+  pub lent-ends : start + long ≤ length room
+  lent-ends = row-ends room n r start long (s .count) (s .from) (s .wide) (s .facts) (s .below)
 
-  pub in-none : a ≡ Nothing → Nothing ≡ candidateIn f sat cop r room
-  unfolding candidateIn
-  in-none e = rw (found-not (slots room) slot (sym answer ∙ e))
+  -- the slot that is looked for in it
+  module _ (f : Family) (sat cop : ℕ) {a : Found} (ea : a ≡ found n (firstSlot f sat n (take (start + long - start) (drop start room)))) where
+    abbrev slot : ℕ
+    slot = firstSlot f sat (slots room) (rowOf r room)
 
-  -- the slot that was found
-  module _ (x : ℕ) (ex : a ≡ At x) where
-    is-slot : x ≡ slot
-    is-slot = found-at (slots room) slot x (sym answer ∙ ex) .0
+    answer : a ≡ found (slots room) slot
+    answer = ea ∙ rw (row-lent room n r start long (s .count) (s .from) (s .wide), s .count)
 
-    within : slot < slots room
-    within = found-at (slots room) slot x (sym answer ∙ ex) .1
+    pub in-none : a ≡ Nothing → Nothing ≡ candidateIn f sat cop r room
+    unfolding candidateIn
+    in-none e = rw (found-not (slots room) slot (sym answer ∙ e))
 
-    pub in-slot : x < n
-    in-slot = rw (is-slot, en) within
+    -- and found
+    module _ {x : ℕ} (ex : a ≡ At x) where
+      is-slot : (x ≡ slot) × (slot < slots room)
+      is-slot = found-at (slots room) slot x (sym answer ∙ ex)
 
-    module _ (at : ℕ) (eat : at ≡ recordAt f x) where
-      is-place : start + at ≡ placeOf f r slot room
-      is-place = rw (es, eat, is-slot, en)
+      pub in-slot : x < n
+      in-slot = rw (is-slot .0, s .count) (is-slot .1)
 
-      pub in-inside : Facts room → r < depth room → start + at + size f ≤ length room
-      in-inside F h = rw is-place (place-inside f r slot room within F h)
+      module _ {at : ℕ} (eat : at ≡ recordAt f x) where
+        is-place : start + at ≡ placeOf f r slot room
+        is-place = rw (s .from, eat, is-slot .0, s .count)
 
-      is-record : part (start + at) (size f) room ≡ recordOf f slot (rowOf r room)
-      is-record = rw is-place (place-record f r slot room within)
+        pub in-inside : start + at + size f ≤ length room
+        in-inside = rw is-place (place-inside f r slot room (is-slot .1) (s .facts) (s .below))
 
-      pub in-unfit : fitsCop f cop (part (start + at) (size f) room) ≡ false → Nothing ≡ candidateIn f sat cop r room
-      unfolding candidateIn
-      in-unfit e = rw (lt-ltb slot (slots room) within, ← is-record, e)
+        is-record : part (start + at) (size f) room ≡ recordOf f slot (rowOf r room)
+        is-record = rw is-place (place-record f r slot room (is-slot .1))
 
-      pub in-fit : fitsCop f cop (part (start + at) (size f) room) ≡ true → At (start + at) ≡ candidateIn f sat cop r room
-      unfolding candidateIn
-      in-fit e = rw (lt-ltb slot (slots room) within, ← is-record, e) (ap At is-place)
+        pub in-unfit : fitsCop f cop (part (start + at) (size f) room) ≡ false → Nothing ≡ candidateIn f sat cop r room
+        unfolding candidateIn
+        in-unfit e = rw (lt-ltb slot (slots room) (is-slot .1), ← is-record, e)
+
+        pub in-fit : fitsCop f cop (part (start + at) (size f) room) ≡ true → At (start + at) ≡ candidateIn f sat cop r room
+        unfolding candidateIn
+        in-fit e = rw (lt-ltb slot (slots room) (is-slot .1), ← is-record, e) (ap At is-place)

@@ -45,26 +45,36 @@ module _ (w t : ℕ) (room row : List ℕ) (e : row ≡ rowOf (current room) roo
   unfolding moves
   moves-marked b h g = rw (← e, ← g) (simp (eq-eqb (getD row 0 0) 1 h))
 
--- the code's steps, each by what its callee ensures
-module _ (room : List ℕ) (d n c next from to : ℕ) (ed : d ≡ depth room) (en : n ≡ slots room) (ec : c ≡ current room) (enext : next ≡ nextRow d c)
-    (efrom : from ≡ rowAt n c) (eto : to ≡ rowAt n next) where
-  -- the next row lies within the room, and the copy to it may go forward
-  pub next-fits : Facts room → to + rowSize n ≤ length room
-  next-fits F = rw (eto, enext, en, ed) (row-inside room F (nextRow (depth room) c) (nextRow-lt (depth room) c (F .rows1)))
+-- what the code knows of the rows before it copies: row c of d at `from`, the next row at `to`
+pub record Next (room : List ℕ) (d n c next from to : ℕ) : Type 0 where
+  pub facts : Facts room
+  pub rows : d ≡ depth room
+  pub count : n ≡ slots room
+  pub row : c ≡ current room
+  pub ahead : next ≡ nextRow d c
+  pub source : from ≡ rowAt n c
+  pub target : to ≡ rowAt n next
 
-  pub copy-fits : Facts room → ((to ≤ from) ⊎ (from + rowSize n ≤ to)) × ((from + rowSize n ≤ length room) × (to + rowSize n ≤ length room))
-  copy-fits F = (
-    rw (efrom, eto, enext) (next-apart n d c),
-    (rw (efrom, en, ec) (row-inside room F (current room) (F .inRing)), next-fits F),
+module _ {room : List ℕ} {d n c next from to : ℕ} (s : Next room d n c next from to) where
+  -- the next row lies within the room, and the copy to it may go forward
+  pub next-fits : to + rowSize n ≤ length room
+  next-fits =
+      rw (s .target, s .ahead, s .count, s .rows)
+      (row-inside room (s .facts) (nextRow (depth room) c) (nextRow-lt (depth room) c (s .facts .rows1)))
+
+  pub copy-fits : ((to ≤ from) ⊎ (from + rowSize n ≤ to)) × ((from + rowSize n ≤ length room) × (to + rowSize n ≤ length room))
+  copy-fits = (
+    rw (s .source, s .target, s .ahead) (next-apart n d c),
+    (rw (s .source, s .count, s .row) (row-inside room (s .facts) (current room) (s .facts .inRing)), next-fits),
   )
 
-  -- together they are the paper's advance
-  pub advanced-by : (size : ℕ) (copy after : List ℕ) → size ≡ rowSize n
+  -- the copy, the row made current and its ages are together the paper's advance
+  pub advanced-by : {size : ℕ} {copy after : List ℕ} → size ≡ rowSize n
       → copy ≡ copied n from to room → after ≡ agedRow n (take (to + size - to) (drop to (set copy 2 next)))
       → take to (set copy 2 next) ++ (after ++ drop (to + size - to) (drop to (set copy 2 next))) ≡ advanced room
   unfolding advanced
-  advanced-by size copy after esize ecopy eafter =
-      part-back-at (agedRow n) to size (set copy 2 next) after eafter ∙ rw (ecopy, esize, efrom, eto, enext, ec, en, ed)
+  advanced-by {size} {copy} {after} long e a =
+      part-back-at (agedRow n) to size (set copy 2 next) after a ∙ rw (e, long, s .source, s .target, s .ahead, s .row, s .count, s .rows)
 
 -- what is known of a store holds after the ring has moved, or not
 pub moved-facts : (w t : ℕ) (room : List ℕ) → Facts room → Facts (cond (moves w t room) (advanced room) room)

@@ -1,7 +1,8 @@
 -- The loop holds that the first slot of all is the first from here on; a record answers by its head.
-use Prim.Native.Nat.{_-_, _≤_}
+use Prim.Native.Nat.{_+_, _-_, _≤_}
 use mathlib.Core.Path.{_≡_, sym, ap, _∙_}
 use native.Mathlib.Omega.{arith}
+use lib.ListN.{length}
 use Rattle.paper.specs.Parts.{firstFrom}
 use Rattle.paper.specs.Record.{familyIf}
 use Rattle.paper.specs.Ask.{hasEnough, enoughSlot}
@@ -28,11 +29,14 @@ returns c = found-none _ _ _ _ (c .before .loop .inv .1) (c .if1 .taken)
 record-start-requires : tie.Need-record-start-requires Inv-loop μ-loop
 record-start-requires c κs = omega arith
 
-add-e : tie.Need-add-e Inv-loop μ-loop
-add-e c =
-    let here = c .before .before .loop in
+-- the head of the record lies within the row
+ends : (c : tie.After-record-start Inv-loop μ-loop) → c .record-start .result + 3 ≤ length (c .before .before .before .before .args .row .now)
+ends c =
     let start = c .before .before .before .before in
-    omega (arith, head-inside (familyIf (start .args .timing)) (start .args .n) (here .slot) (c .before .if1 .left), c .record-start .ensures)
+    omega (arith, head-inside (familyIf (start .args .timing)) (start .args .n) (c .before .before .loop .slot) (c .before .if1 .left), c .record-start .ensures)
+
+add-e : tie.Need-add-e Inv-loop μ-loop
+add-e c = omega (arith, ends c)
 
 sub-has-enough : tie.Need-sub-has-enough Inv-loop μ-loop
 sub-has-enough c = omega arith
@@ -41,17 +45,10 @@ part-has-enough-start : tie.Need-part-has-enough-start Inv-loop μ-loop
 part-has-enough-start c = omega arith
 
 part-has-enough-end : tie.Need-part-has-enough-end Inv-loop μ-loop
-part-has-enough-end c =
-    let here = c .before .before .loop in
-    let start = c .before .before .before .before in
-    omega (arith, head-inside (familyIf (start .args .timing)) (start .args .n) (here .slot) (c .before .if1 .left), c .record-start .ensures)
+part-has-enough-end c = omega (arith, ends c)
 
 has-enough-requires : tie.Need-has-enough-requires Inv-loop μ-loop
-has-enough-requires c κs =
-    let here = c .before .before .before .loop in
-    let start = c .before .before .before .before .before in
-    let inside = head-inside (familyIf (start .args .timing)) (start .args .n) (here .slot) (c .before .before .if1 .left) in
-    omega (arith, length-lent (c .before .record-start .result) 3 (start .args .row .now) (omega (arith, c .before .record-start .ensures)))
+has-enough-requires c κs = omega (arith, length-lent (c .before .record-start .result) 3 (c .before .before .before .before .before .args .row .now) (ends (c .before)))
 
 add-slot : tie.Need-add-slot Inv-loop μ-loop
 add-slot c = omega arith
@@ -59,23 +56,22 @@ add-slot c = omega arith
 loop-less : tie.Need-loop-less Inv-loop μ-loop
 loop-less c = omega arith
 
+-- the test of the code is the test of the record of slot number `slot`
+test : (c : tie.After-has-enough Inv-loop μ-loop)
+    → c .has-enough .result ≡ isEnough (familyIf (c .before .before .before .before .before .before .args .timing)) (c .before .before .before .before .before .before .args .sat) (c .before .before .before .before .before .before .args .row .now) (c .before .before .before .before .loop .slot)
+test c =
+    let placed = c .before .before in
+    let args = c .before .before .before .before .before .before .args in
+    c .has-enough .ensures
+    ∙ ap (hasEnough (args .sat)) (part-lent (placed .record-start .result) 3 (args .row .now) ∙ rw (placed .record-start .ensures))
+    ∙ enough-head (familyIf (args .timing)) (args .sat) (c .before .before .before .before .loop .slot) (args .row .now)
+
 loop-again : tie.Need-loop-again Inv-loop μ-loop
 loop-again c =
-    let here = c .before .before .before .before .before .loop in
-    let start = c .before .before .before .before .before .before .before in
-    let f = familyIf (start .args .timing) in
-    let lent = part-lent (c .before .before .before .record-start .result) 3 (start .args .row .now) in
-    let test = c .before .has-enough .ensures ∙ ap (hasEnough (start .args .sat)) (lent ∙ rw (c .before .before .before .record-start .ensures)) ∙ enough-head f (start .args .sat) (here .slot) (start .args .row .now) in
-    (omega arith, first-on _ _ _ _ (here .inv .1) (c .before .before .before .before .if1 .left) (sym test ∙ c .if2 .left))
+    (omega arith, first-on _ _ _ _ (c .before .before .before .before .before .loop .inv .1) (c .before .before .before .before .if1 .left) (sym (test (c .before)) ∙ c .if2 .left))
 
 returns-2 : tie.Need-returns-2 Inv-loop μ-loop
-returns-2 c =
-    let here = c .before .before .before .before .before .loop in
-    let start = c .before .before .before .before .before .before .before in
-    let f = familyIf (start .args .timing) in
-    let lent = part-lent (c .before .before .before .record-start .result) 3 (start .args .row .now) in
-    let test = c .before .has-enough .ensures ∙ ap (hasEnough (start .args .sat)) (lent ∙ rw (c .before .before .before .record-start .ensures)) ∙ enough-head f (start .args .sat) (here .slot) (start .args .row .now) in
-    found-here _ _ _ _ (here .inv .1) (c .before .before .before .before .if1 .left) (sym test ∙ c .if2 .taken)
+returns-2 c = found-here _ _ _ _ (c .before .before .before .before .before .loop .inv .1) (c .before .before .before .before .if1 .left) (sym (test (c .before)) ∙ c .if2 .taken)
 
 pub enough-slot-spec : {M : Type 1} → statement M
 enough-slot-spec =

@@ -2,7 +2,7 @@
 use native.Mathlib.Omega.{arith}
 use Rattle.paper.specs.Record.{familyIf}
 use Rattle.rows.proofs.Where.{back-below}
-use Rattle.ask.proofs.Steps.{step-ends, place-none, place-slot, place-inside, place-here}
+use Rattle.ask.proofs.Steps.{Step, step-ends, place-none, place-slot, place-inside, place-here}
 use borrow.Author.Needs.{needs}
 use Rattle.ask.proofs.place_back.Statement.{statement}
 use Rattle.ask.proofs.place_back.Tie as tie
@@ -39,19 +39,26 @@ row-start-requires c κs =
 row-size-requires : tie.Need-row-size-requires
 row-size-requires c κs = search needs
 
+-- the row that is lent
+step : (c : tie.After-row-size)
+    → Step (c .before .before .before .before .before .before .before .before .before .before .args .room .now) (c .before .before .before .before .before .wide2 .result) (c .before .before .before .before .before .before .before .wide .result) (c .before .before .before .wide3 .result) (c .before .before .before .before .before .before .before .before .before .before .args .j)
+    (c .before .before .row-back .result) (c .before .row-start .result) (c .row-size .result)
+step c =
+    let start = c .before .before .before .before .before .before .before .before .before .before in
+    let rows = c .before .before .before .before .before .wide2 .ensures .0 in
+    record {
+      facts = start .pre .0;
+      rows = rows;
+      count = c .before .before .before .before .before .before .before .wide .ensures .0;
+      row = c .before .before .before .wide3 .ensures .0;
+      below = rw rows (start .pre .1);
+      back = c .before .before .row-back .ensures;
+      from = c .before .row-start .ensures;
+      wide = c .row-size .ensures;
+    }
+
 add-e : tie.Need-add-e
-add-e c =
-    let sized = c in
-    let placed = sized .before in
-    let back = placed .before in
-    let row = back .before in
-    let rows = row .before .before in
-    let count = rows .before .before in
-    let start = count .before .before .before in
-    let ends = step-ends (start .args .room .now) (rows .wide2 .result) (count .wide .result) (row .wide3 .result) (start .args .j) (back .row-back .result)
-    (placed .row-start .result) (sized .row-size .result) (rows .wide2 .ensures .0) (count .wide .ensures .0) (row .wide3 .ensures .0)
-    (back .row-back .ensures) (placed .row-start .ensures) (sized .row-size .ensures) (start .pre .0) (rw (rows .wide2 .ensures .0) (start .pre .1)) in
-    omega arith
+add-e c = omega (arith, step-ends (step c))
 
 sub-enough-slot : tie.Need-sub-enough-slot
 sub-enough-slot c = search needs
@@ -60,18 +67,7 @@ part-enough-slot-start : tie.Need-part-enough-slot-start
 part-enough-slot-start c = search needs
 
 part-enough-slot-end : tie.Need-part-enough-slot-end
-part-enough-slot-end c =
-    let sized = c in
-    let placed = sized .before in
-    let back = placed .before in
-    let row = back .before in
-    let rows = row .before .before in
-    let count = rows .before .before in
-    let start = count .before .before .before in
-    let ends = step-ends (start .args .room .now) (rows .wide2 .result) (count .wide .result) (row .wide3 .result) (start .args .j) (back .row-back .result)
-    (placed .row-start .result) (sized .row-size .result) (rows .wide2 .ensures .0) (count .wide .ensures .0) (row .wide3 .ensures .0)
-    (back .row-back .ensures) (placed .row-start .ensures) (sized .row-size .ensures) (start .pre .0) (rw (rows .wide2 .ensures .0) (start .pre .1)) in
-    omega arith
+part-enough-slot-end c = omega (arith, step-ends (step c))
 
 enough-slot-requires : tie.Need-enough-slot-requires
 enough-slot-requires c κs = search needs
@@ -85,64 +81,26 @@ enum-told c = search needs
 returns : tie.Need-returns
 returns c =
     let looked = c .before .before in
-    let sized = looked .before .before in
-    let placed = sized .before in
-    let back = placed .before in
-    let row = back .before in
-    let rows = row .before .before in
-    let count = rows .before .before in
-    let start = count .before .before .before in
-    place-none (start .args .room .now) (rows .wide2 .result) (count .wide .result) (row .wide3 .result) (start .args .j) (back .row-back .result)
-    (placed .row-start .result) (sized .row-size .result) (rows .wide2 .ensures .0) (count .wide .ensures .0) (row .wide3 .ensures .0)
-    (back .row-back .ensures) (placed .row-start .ensures) (sized .row-size .ensures)
-    (familyIf (start .args .timing)) (start .args .sat) (looked .enough-slot .result) (looked .enough-slot .ensures) (c .enum-told .given .1)
+    let start = looked .before .before .before .before .before .before .before .before .before .before .before .before in
+    place-none (step (looked .before .before)) (familyIf (start .args .timing)) (start .args .sat) (looked .enough-slot .ensures) (c .enum-told .given .1)
 
 record-start-requires : tie.Need-record-start-requires
 record-start-requires c κs =
     let looked = c .before .before .before in
-    let sized = looked .before .before in
-    let placed = sized .before in
-    let back = placed .before in
-    let row = back .before in
-    let rows = row .before .before in
-    let count = rows .before .before in
-    let start = count .before .before .before in
-    let found = place-slot (start .args .room .now) (rows .wide2 .result) (count .wide .result) (row .wide3 .result) (start .args .j) (back .row-back .result)
-    (placed .row-start .result) (sized .row-size .result) (rows .wide2 .ensures .0) (count .wide .ensures .0) (row .wide3 .ensures .0)
-    (back .row-back .ensures) (placed .row-start .ensures) (sized .row-size .ensures)
-    (familyIf (start .args .timing)) (start .args .sat) (looked .enough-slot .result) (looked .enough-slot .ensures) _ (c .before .slot .given .1) in
-    omega arith
+    let start = looked .before .before .before .before .before .before .before .before .before .before .before .before in
+    omega (arith, place-slot (step (looked .before .before)) (familyIf (start .args .timing)) (start .args .sat) (looked .enough-slot .ensures) (c .before .slot .given .1))
 
 add-t14 : tie.Need-add-t14
 add-t14 c =
     let looked = c .before .before .before .before in
-    let sized = looked .before .before in
-    let placed = sized .before in
-    let back = placed .before in
-    let row = back .before in
-    let rows = row .before .before in
-    let count = rows .before .before in
-    let start = count .before .before .before in
-    let inside = place-inside (start .args .room .now) (rows .wide2 .result) (count .wide .result) (row .wide3 .result) (start .args .j) (back .row-back .result)
-    (placed .row-start .result) (sized .row-size .result) (rows .wide2 .ensures .0) (count .wide .ensures .0) (row .wide3 .ensures .0)
-    (back .row-back .ensures) (placed .row-start .ensures) (sized .row-size .ensures)
-    (familyIf (start .args .timing)) (start .args .sat) (looked .enough-slot .result) (looked .enough-slot .ensures) _ (c .before .before .slot .given .1) (c .record-start .result) (c .record-start .ensures) (start .pre .0) (rw (rows .wide2 .ensures .0) (start .pre .1)) in
-    omega arith
+    let start = looked .before .before .before .before .before .before .before .before .before .before .before .before in
+    omega (arith, place-inside (step (looked .before .before)) (familyIf (start .args .timing)) (start .args .sat) (looked .enough-slot .ensures) (c .before .before .slot .given .1) (c .record-start .ensures))
 
 returns-2 : tie.Need-returns-2
 returns-2 c =
     let looked = c .before .before .before .before in
-    let sized = looked .before .before in
-    let placed = sized .before in
-    let back = placed .before in
-    let row = back .before in
-    let rows = row .before .before in
-    let count = rows .before .before in
-    let start = count .before .before .before in
-    place-here (start .args .room .now) (rows .wide2 .result) (count .wide .result) (row .wide3 .result) (start .args .j) (back .row-back .result)
-    (placed .row-start .result) (sized .row-size .result) (rows .wide2 .ensures .0) (count .wide .ensures .0) (row .wide3 .ensures .0)
-    (back .row-back .ensures) (placed .row-start .ensures) (sized .row-size .ensures)
-    (familyIf (start .args .timing)) (start .args .sat) (looked .enough-slot .result) (looked .enough-slot .ensures) _ (c .before .before .slot .given .1) (c .record-start .result) (c .record-start .ensures)
+    let start = looked .before .before .before .before .before .before .before .before .before .before .before .before in
+    place-here (step (looked .before .before)) (familyIf (start .args .timing)) (start .args .sat) (looked .enough-slot .ensures) (c .before .before .slot .given .1) (c .record-start .ensures)
 
 pub place-back-spec : {M : Type 1} → statement M
 place-back-spec =

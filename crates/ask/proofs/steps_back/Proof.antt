@@ -1,16 +1,15 @@
 -- The loop holds that the first row back of all is the first from here on.
-use Prim.Native.Nat.{_-_, _≤_}
+use Prim.Native.Nat.{_-_, _≤_, _<_}
 use mathlib.Core.Path.{_≡_, sym, _∙_}
 use native.Mathlib.Omega.{arith}
 use Rattle.paper.specs.Parts.{firstFrom}
 use Rattle.paper.specs.Record.{familyIf}
 use Rattle.paper.specs.Ask.{stepsBack}
-use Rattle.paper.proofs.Parts.{length-lent}
 use Rattle.paper.proofs.First.{first-on}
 use Rattle.rows.proofs.Where.{back-below}
 use Rattle.lookup.proofs.Search.{found-here, found-none}
 use Rattle.ask.proofs.Heads.{answersAt}
-use Rattle.ask.proofs.Steps.{step-ends, step-test}
+use Rattle.ask.proofs.Steps.{Step, step-ends, step-length, step-test}
 use Rattle.ask.proofs.steps_back.Statement.{statement}
 use Rattle.ask.proofs.steps_back.Tie as tie
 
@@ -58,23 +57,30 @@ row-back-requires c κs = omega arith
 
 row-start-requires : tie.Need-row-start-requires Inv-loop μ-loop
 row-start-requires c κs =
-    let rows = c .before .before .before .before .before .before .before .before in
-    (omega arith, omega (arith, c .row-back .ensures, rows .wide .ensures, back-below (rows .wide .result) (c .before .before .before .before .wide3 .result) (c .before .before .loop .j) (omega (arith, c .before .before .before .before .wide3 .ensures, c .before .before .before .before .before .before .before .before .before .before .before .pre .inRing, rows .wide .ensures)) (c .before .if1 .left)))
+    let row = c .before .before .before .before in
+    let rows = row .before .before .before .before in
+    let start = rows .before .before .before in
+    let current : row .wide3 .result < rows .wide .result = omega (arith, start .pre .inRing) in
+    (omega arith, omega (arith, c .row-back .ensures, back-below (rows .wide .result) (row .wide3 .result) (c .before .before .loop .j) current (c .before .if1 .left)))
+
+-- the row that is lent
+step : (c : tie.After-row-start Inv-loop μ-loop)
+    → Step (c .before .before .before .before .before .before .before .before .before .before .before .before .args .room .now) (c .before .before .before .before .before .before .before .before .before .wide .result) (c .before .before .before .before .before .before .before .wide2 .result) (c .before .before .before .before .before .wide3 .result) (c .before .before .before .loop .j)
+    (c .before .row-back .result) (c .row-start .result) (c .before .before .before .before .row-size .result)
+step c =
+    record {
+      facts = c .before .before .before .before .before .before .before .before .before .before .before .before .pre;
+      rows = c .before .before .before .before .before .before .before .before .before .wide .ensures .0;
+      count = c .before .before .before .before .before .before .before .wide2 .ensures .0;
+      row = c .before .before .before .before .before .wide3 .ensures .0;
+      below = c .before .before .if1 .left;
+      back = c .before .row-back .ensures;
+      from = c .row-start .ensures;
+      wide = c .before .before .before .before .row-size .ensures;
+    }
 
 add-e : tie.Need-add-e Inv-loop μ-loop
-add-e c =
-    let placed = c in
-    let back = placed .before in
-    let here = back .before .before in
-    let sized = here .before in
-    let row = sized .before in
-    let count = row .before .before in
-    let rows = count .before .before in
-    let start = rows .before .before .before in
-    let ends = step-ends (start .args .room .now) (rows .wide .result) (count .wide2 .result) (row .wide3 .result) (here .loop .j) (back .row-back .result)
-    (placed .row-start .result) (sized .row-size .result) (rows .wide .ensures .0) (count .wide2 .ensures .0) (row .wide3 .ensures .0)
-    (back .row-back .ensures) (placed .row-start .ensures) (sized .row-size .ensures) (start .pre) (back .before .if1 .left) in
-    omega arith
+add-e c = omega (arith, step-ends (step c))
 
 sub-row-answers : tie.Need-sub-row-answers Inv-loop μ-loop
 sub-row-answers c = omega arith
@@ -83,34 +89,10 @@ part-row-answers-start : tie.Need-part-row-answers-start Inv-loop μ-loop
 part-row-answers-start c = omega arith
 
 part-row-answers-end : tie.Need-part-row-answers-end Inv-loop μ-loop
-part-row-answers-end c =
-    let placed = c in
-    let back = placed .before in
-    let here = back .before .before in
-    let sized = here .before in
-    let row = sized .before in
-    let count = row .before .before in
-    let rows = count .before .before in
-    let start = rows .before .before .before in
-    let ends = step-ends (start .args .room .now) (rows .wide .result) (count .wide2 .result) (row .wide3 .result) (here .loop .j) (back .row-back .result)
-    (placed .row-start .result) (sized .row-size .result) (rows .wide .ensures .0) (count .wide2 .ensures .0) (row .wide3 .ensures .0)
-    (back .row-back .ensures) (placed .row-start .ensures) (sized .row-size .ensures) (start .pre) (back .before .if1 .left) in
-    omega arith
+part-row-answers-end c = omega (arith, step-ends (step c))
 
 row-answers-requires : tie.Need-row-answers-requires Inv-loop μ-loop
-row-answers-requires c κs =
-    let placed = c .before in
-    let back = placed .before in
-    let here = back .before .before in
-    let sized = here .before in
-    let row = sized .before in
-    let count = row .before .before in
-    let rows = count .before .before in
-    let start = rows .before .before .before in
-    let ends = step-ends (start .args .room .now) (rows .wide .result) (count .wide2 .result) (row .wide3 .result) (here .loop .j) (back .row-back .result)
-    (placed .row-start .result) (sized .row-size .result) (rows .wide .ensures .0) (count .wide2 .ensures .0) (row .wide3 .ensures .0)
-    (back .row-back .ensures) (placed .row-start .ensures) (sized .row-size .ensures) (start .pre) (back .before .if1 .left) in
-    (omega arith, omega (arith, length-lent (placed .row-start .result) (sized .row-size .result) (start .args .room .now) ends, sized .row-size .ensures))
+row-answers-requires c κs = (omega arith, omega (arith, step-length (step (c .before))))
 
 add-j : tie.Need-add-j Inv-loop μ-loop
 add-j c = omega arith
@@ -121,32 +103,19 @@ loop-less c = omega arith
 loop-again : tie.Need-loop-again Inv-loop μ-loop
 loop-again c =
     let placed = c .before .before .before in
-    let back = placed .before in
-    let here = back .before .before in
-    let sized = here .before in
-    let row = sized .before in
-    let count = row .before .before in
-    let rows = count .before .before in
-    let start = rows .before .before .before in
-    let test = step-test (start .args .room .now) (rows .wide .result) (count .wide2 .result) (row .wide3 .result) (here .loop .j) (back .row-back .result)
-    (placed .row-start .result) (sized .row-size .result) (rows .wide .ensures .0) (count .wide2 .ensures .0) (row .wide3 .ensures .0)
-    (back .row-back .ensures) (placed .row-start .ensures) (sized .row-size .ensures) (familyIf (start .args .timing)) (start .args .sat) _ (c .before .row-answers .ensures) in
-    (omega arith, first-on _ _ _ _ (here .loop .inv .1) (back .before .if1 .left) (sym test ∙ c .if2 .left))
+    let here = placed .before .before .before .loop in
+    let args = placed .before .before .before .before .before .before .before .before .before .before .before .before .args in
+    let test = step-test (step placed) (familyIf (args .timing)) (args .sat) (c .before .row-answers .ensures) in
+    (omega arith, first-on _ _ _ _ (here .inv .1) (placed .before .before .if1 .left) (sym test ∙ c .if2 .left))
 
 returns-2 : tie.Need-returns-2 Inv-loop μ-loop
 returns-2 c =
     let placed = c .before .before .before in
-    let back = placed .before in
-    let here = back .before .before in
-    let sized = here .before in
-    let row = sized .before in
-    let count = row .before .before in
-    let rows = count .before .before in
-    let start = rows .before .before .before in
-    let test = step-test (start .args .room .now) (rows .wide .result) (count .wide2 .result) (row .wide3 .result) (here .loop .j) (back .row-back .result)
-    (placed .row-start .result) (sized .row-size .result) (rows .wide .ensures .0) (count .wide2 .ensures .0) (row .wide3 .ensures .0)
-    (back .row-back .ensures) (placed .row-start .ensures) (sized .row-size .ensures) (familyIf (start .args .timing)) (start .args .sat) _ (c .before .row-answers .ensures) in
-    rw (← rows .wide .ensures .0) (found-here _ _ _ _ (here .loop .inv .1) (back .before .if1 .left) (sym test ∙ c .if2 .taken))
+    let here = placed .before .before .before .loop in
+    let args = placed .before .before .before .before .before .before .before .before .before .before .before .before .args in
+    let test = step-test (step placed) (familyIf (args .timing)) (args .sat) (c .before .row-answers .ensures) in
+    rw (← placed .before .before .before .before .before .before .before .before .before .wide .ensures .0)
+    (found-here _ _ _ _ (here .inv .1) (placed .before .before .if1 .left) (sym test ∙ c .if2 .taken))
 
 pub steps-back-spec : {M : Type 1} → statement M
 steps-back-spec =

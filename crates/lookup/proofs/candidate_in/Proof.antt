@@ -3,8 +3,7 @@ use mathlib.Core.Path.{sym, _∙_}
 use native.Mathlib.Omega.{arith}
 use borrow.Author.Tests.{not-true, not-false}
 use Rattle.paper.specs.Record.{familyIf}
-use Rattle.rows.proofs.Where.{row-ends}
-use Rattle.lookup.proofs.Steps.{in-none, in-slot, in-inside, in-unfit, in-fit}
+use Rattle.lookup.proofs.Steps.{Lent, lent-ends, in-none, in-slot, in-inside, in-unfit, in-fit}
 use borrow.Author.Needs.{needs}
 use Rattle.lookup.proofs.candidate_in.Statement.{statement}
 use Rattle.lookup.proofs.candidate_in.Tie as tie
@@ -21,11 +20,20 @@ row-start-requires c κs = search needs
 row-size-requires : tie.Need-row-size-requires
 row-size-requires c κs = search needs
 
+-- the row that is lent
+lent : (c : tie.After-row-size)
+    → Lent (c .before .before .before .before .before .args .room .now) (c .before .before .before .before .before .args .r) (c .before .before .wide .result) (c .before .row-start .result) (c .row-size .result)
+lent c =
+    record {
+      facts = c .before .before .before .before .before .pre .0;
+      below = c .before .before .before .before .before .pre .1;
+      count = c .before .before .wide .ensures .0;
+      from = c .before .row-start .ensures;
+      wide = c .row-size .ensures;
+    }
+
 add-e : tie.Need-add-e
-add-e c =
-    let count = c .before .before in
-    let start = count .before .before .before in
-    omega (arith, row-ends (start .args .room .now) _ _ _ _ (count .wide .ensures .0) (c .before .row-start .ensures) (c .row-size .ensures) (start .pre .0) (start .pre .1))
+add-e c = omega (arith, lent-ends (lent c))
 
 sub-slot-of : tie.Need-sub-slot-of
 sub-slot-of c = search needs
@@ -34,10 +42,7 @@ part-slot-of-start : tie.Need-part-slot-of-start
 part-slot-of-start c = search needs
 
 part-slot-of-end : tie.Need-part-slot-of-end
-part-slot-of-end c =
-    let count = c .before .before in
-    let start = count .before .before .before in
-    omega (arith, row-ends (start .args .room .now) _ _ _ _ (count .wide .ensures .0) (c .before .row-start .ensures) (c .row-size .ensures) (start .pre .0) (start .pre .1))
+part-slot-of-end c = omega (arith, lent-ends (lent c))
 
 slot-of-requires : tie.Need-slot-of-requires
 slot-of-requires c κs = search needs
@@ -51,71 +56,41 @@ enum-told c = search needs
 returns : tie.Need-returns
 returns c =
     let looked = c .before .before in
-    let sized = looked .before .before in
-    let placed = sized .before in
-    let count = placed .before in
-    let start = count .before .before .before in
-    in-none (familyIf (start .args .timing)) (start .args .sat) (start .args .cop) (start .args .r) (start .args .room .now)
-    (count .wide .result) (placed .row-start .result) (sized .row-size .result) (count .wide .ensures .0) (placed .row-start .ensures) (sized .row-size .ensures)
-    (looked .slot-of .result) (looked .slot-of .ensures) (c .enum-told .given .1)
+    let args = looked .before .before .before .before .before .before .before .args in
+    in-none (lent (looked .before .before)) (familyIf (args .timing)) (args .sat) (args .cop) (looked .slot-of .ensures) (c .enum-told .given .1)
 
 record-start-requires : tie.Need-record-start-requires
 record-start-requires c κs =
     let looked = c .before .before .before in
-    let sized = looked .before .before in
-    let placed = sized .before in
-    let count = placed .before in
-    let start = count .before .before .before in
-    let found = in-slot (familyIf (start .args .timing)) (start .args .sat) (start .args .cop) (start .args .r) (start .args .room .now)
-    (count .wide .result) (placed .row-start .result) (sized .row-size .result) (count .wide .ensures .0) (placed .row-start .ensures) (sized .row-size .ensures)
-    (looked .slot-of .result) (looked .slot-of .ensures) _ (c .before .slot .given .1) in
-    omega arith
+    let args = looked .before .before .before .before .before .before .before .args in
+    omega (arith, in-slot (lent (looked .before .before)) (familyIf (args .timing)) (args .sat) (args .cop) (looked .slot-of .ensures) (c .before .slot .given .1))
 
 add-at : tie.Need-add-at
 add-at c =
     let looked = c .before .before .before .before in
-    let sized = looked .before .before in
-    let placed = sized .before in
-    let count = placed .before in
-    let start = count .before .before .before in
-    let inside = in-inside (familyIf (start .args .timing)) (start .args .sat) (start .args .cop) (start .args .r) (start .args .room .now)
-    (count .wide .result) (placed .row-start .result) (sized .row-size .result) (count .wide .ensures .0) (placed .row-start .ensures) (sized .row-size .ensures)
-    (looked .slot-of .result) (looked .slot-of .ensures) _ (c .before .before .slot .given .1) (c .record-start .result) (c .record-start .ensures) (start .pre .0) (start .pre .1) in
-    omega arith
+    let args = looked .before .before .before .before .before .before .before .args in
+    omega (arith, in-inside (lent (looked .before .before)) (familyIf (args .timing)) (args .sat) (args .cop) (looked .slot-of .ensures) (c .before .before .slot .given .1) (c .record-start .ensures))
 
 fits-cop-requires : tie.Need-fits-cop-requires
 fits-cop-requires c κs =
     let looked = c .before .before .before .before in
-    let sized = looked .before .before in
-    let placed = sized .before in
-    let count = placed .before in
-    let start = count .before .before .before in
-    in-inside (familyIf (start .args .timing)) (start .args .sat) (start .args .cop) (start .args .r) (start .args .room .now)
-    (count .wide .result) (placed .row-start .result) (sized .row-size .result) (count .wide .ensures .0) (placed .row-start .ensures) (sized .row-size .ensures)
-    (looked .slot-of .result) (looked .slot-of .ensures) _ (c .before .before .slot .given .1) (c .record-start .result) (c .record-start .ensures) (start .pre .0) (start .pre .1)
+    let args = looked .before .before .before .before .before .before .before .args in
+    in-inside (lent (looked .before .before)) (familyIf (args .timing)) (args .sat) (args .cop) (looked .slot-of .ensures) (c .before .before .slot .given .1) (c .record-start .ensures)
 
 returns-2 : tie.Need-returns-2
 returns-2 c =
-    let looked = c .before .before .before .before .before .before in
-    let sized = looked .before .before in
-    let placed = sized .before in
-    let count = placed .before in
-    let start = count .before .before .before in
-    in-unfit (familyIf (start .args .timing)) (start .args .sat) (start .args .cop) (start .args .r) (start .args .room .now)
-    (count .wide .result) (placed .row-start .result) (sized .row-size .result) (count .wide .ensures .0) (placed .row-start .ensures) (sized .row-size .ensures)
-    (looked .slot-of .result) (looked .slot-of .ensures) _ (c .before .before .before .before .slot .given .1) (c .before .before .record-start .result) (c .before .before .record-start .ensures)
+    let placed = c .before .before in
+    let looked = placed .before .before .before .before in
+    let args = looked .before .before .before .before .before .before .before .args in
+    in-unfit (lent (looked .before .before)) (familyIf (args .timing)) (args .sat) (args .cop) (looked .slot-of .ensures) (placed .before .before .slot .given .1) (placed .record-start .ensures)
     (sym (c .before .fits-cop .ensures) ∙ not-true _ (c .if1 .taken))
 
 returns-3 : tie.Need-returns-3
 returns-3 c =
-    let looked = c .before .before .before .before .before .before in
-    let sized = looked .before .before in
-    let placed = sized .before in
-    let count = placed .before in
-    let start = count .before .before .before in
-    in-fit (familyIf (start .args .timing)) (start .args .sat) (start .args .cop) (start .args .r) (start .args .room .now)
-    (count .wide .result) (placed .row-start .result) (sized .row-size .result) (count .wide .ensures .0) (placed .row-start .ensures) (sized .row-size .ensures)
-    (looked .slot-of .result) (looked .slot-of .ensures) _ (c .before .before .before .before .slot .given .1) (c .before .before .record-start .result) (c .before .before .record-start .ensures)
+    let placed = c .before .before in
+    let looked = placed .before .before .before .before in
+    let args = looked .before .before .before .before .before .before .before .args in
+    in-fit (lent (looked .before .before)) (familyIf (args .timing)) (args .sat) (args .cop) (looked .slot-of .ensures) (placed .before .before .slot .given .1) (placed .record-start .ensures)
     (sym (c .before .fits-cop .ensures) ∙ not-false _ (c .if1 .left))
 
 pub candidate-in-spec : {M : Type 1} → statement M

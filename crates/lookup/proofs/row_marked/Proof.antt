@@ -1,8 +1,9 @@
 -- The loop holds where row number `row` starts, and that the first row of all is the first from here on.
-use Prim.Native.Nat.{_-_, _≤_, _<_}
+use Prim.Native.Nat.{_+_, _-_, _≤_, _<_}
 use mathlib.Core.Path.{_≡_, sym, ap, _∙_}
 use mathlib.Core.Bool.{_&&_}
 use native.Mathlib.Omega.{arith}
+use lib.ListN.{length}
 use Rattle.paper.specs.Parts.{firstFrom}
 use Rattle.paper.specs.Room.{depth, rowAt, marked, isAt}
 use Rattle.paper.specs.Tag.{firstRow}
@@ -46,15 +47,19 @@ returns c =
     let rows = c .before .before .before .before .before in
     rw (← rows .wide .ensures .0) (found-none _ _ _ _ (c .before .loop .inv .1 .1) (c .if1 .taken))
 
-add-e : tie.Need-add-e Inv-loop μ-loop
-add-e c =
+-- the row that is looked at lies within the room
+ends : (c : tie.Else1 Inv-loop μ-loop) → c .before .loop .at + c .before .before .row-size .result ≤ length (c .before .before .before .before .before .before .before .before .args .room .now)
+ends c =
     let here = c .before .loop in
     let sized = c .before .before in
     let count = sized .before in
     let rows = count .before .before in
     let start = rows .before .before .before in
     let h : here .row < depth (start .args .room .now) = omega (arith, rows .wide .ensures) in
-    omega (arith, row-ends (start .args .room .now) _ _ _ _ (count .wide2 .ensures .0) (here .inv .1 .0) (sized .row-size .ensures) (start .pre) h)
+    row-ends (start .args .room .now) _ _ _ _ (count .wide2 .ensures .0) (here .inv .1 .0) (sized .row-size .ensures) (start .pre) h
+
+add-e : tie.Need-add-e Inv-loop μ-loop
+add-e c = omega (arith, ends c)
 
 sub-is-marked-at : tie.Need-sub-is-marked-at Inv-loop μ-loop
 sub-is-marked-at c = omega arith
@@ -63,25 +68,14 @@ part-is-marked-at-start : tie.Need-part-is-marked-at-start Inv-loop μ-loop
 part-is-marked-at-start c = omega arith
 
 part-is-marked-at-end : tie.Need-part-is-marked-at-end Inv-loop μ-loop
-part-is-marked-at-end c =
-    let here = c .before .loop in
-    let sized = c .before .before in
-    let count = sized .before in
-    let rows = count .before .before in
-    let start = rows .before .before .before in
-    let h : here .row < depth (start .args .room .now) = omega (arith, rows .wide .ensures) in
-    omega (arith, row-ends (start .args .room .now) _ _ _ _ (count .wide2 .ensures .0) (here .inv .1 .0) (sized .row-size .ensures) (start .pre) h)
+part-is-marked-at-end c = omega (arith, ends c)
 
 is-marked-at-requires : tie.Need-is-marked-at-requires Inv-loop μ-loop
 is-marked-at-requires c κs =
     let here = c .before .before .loop in
     let sized = c .before .before .before in
-    let count = sized .before in
-    let rows = count .before .before in
-    let start = rows .before .before .before in
-    let h : here .row < depth (start .args .room .now) = omega (arith, rows .wide .ensures) in
-    let ends = row-ends (start .args .room .now) _ _ _ _ (count .wide2 .ensures .0) (here .inv .1 .0) (sized .row-size .ensures) (start .pre) h in
-    omega (arith, length-lent (here .at) (sized .row-size .result) (start .args .room .now) ends, sized .row-size .ensures)
+    let start = sized .before .before .before .before .before .before in
+    omega (arith, length-lent (here .at) (sized .row-size .result) (start .args .room .now) (ends (c .before)), sized .row-size .ensures)
 
 add-row : tie.Need-add-row Inv-loop μ-loop
 add-row c = omega arith
@@ -89,31 +83,32 @@ add-row c = omega arith
 loop-less : tie.Need-loop-less Inv-loop μ-loop
 loop-less c = omega arith
 
+-- the test of the code is the test of row number `row`
+test : (c : tie.After-is-marked-at Inv-loop μ-loop)
+    → c .is-marked-at .result ≡ isMarked (c .before .before .before .before .before .before .before .before .before .before .args .week) (c .before .before .before .before .before .before .before .before .before .before .args .time) (c .before .before .before .before .before .before .before .before .before .before .args .room .now) (c .before .before .before .loop .row)
+test c =
+    let here = c .before .before .before .loop in
+    let sized = c .before .before .before .before in
+    let count = sized .before in
+    let args = count .before .before .before .before .before .args in
+    let lent = row-lent (args .room .now) _ _ _ _ (count .wide2 .ensures .0) (here .inv .1 .0) (sized .row-size .ensures) in
+    c .is-marked-at .ensures ∙ ap (λ l. marked l && isAt (args .week) (args .time) l) lent
+
 loop-again : tie.Need-loop-again Inv-loop μ-loop
 loop-again c =
-    let here = c .before .before .before .before .loop in
-    let sized = c .before .before .before .before .before in
-    let count = sized .before in
-    let start = count .before .before .before .before .before in
-    let lent = row-lent (start .args .room .now) _ _ _ _ (count .wide2 .ensures .0) (here .inv .1 .0) (sized .row-size .ensures) in
-    let test = c .before .is-marked-at .ensures ∙ ap (λ l. marked l && isAt (start .args .week) (start .args .time) l) lent in (
+    let here = c .before .before .before .before .loop in (
       omega arith,
       (
-        rw row-next (omega (arith, here .inv .1 .0, sized .row-size .ensures)),
-        first-on _ _ _ _ (here .inv .1 .1) (c .before .before .before .if1 .left) (sym test ∙ c .if2 .left),
+        rw row-next (omega (arith, here .inv .1 .0, c .before .before .before .before .before .row-size .ensures)),
+        first-on _ _ _ _ (here .inv .1 .1) (c .before .before .before .if1 .left) (sym (test (c .before)) ∙ c .if2 .left),
       ),
     )
 
 returns-2 : tie.Need-returns-2 Inv-loop μ-loop
 returns-2 c =
-    let here = c .before .before .before .before .loop in
-    let sized = c .before .before .before .before .before in
-    let count = sized .before in
-    let rows = count .before .before in
-    let start = rows .before .before .before in
-    let lent = row-lent (start .args .room .now) _ _ _ _ (count .wide2 .ensures .0) (here .inv .1 .0) (sized .row-size .ensures) in
-    let test = c .before .is-marked-at .ensures ∙ ap (λ l. marked l && isAt (start .args .week) (start .args .time) l) lent in
-    rw (← rows .wide .ensures .0) (found-here _ _ _ _ (here .inv .1 .1) (c .before .before .before .if1 .left) (sym test ∙ c .if2 .taken))
+    let rows = c .before .before .before .before .before .before .before .before in
+    rw (← rows .wide .ensures .0)
+    (found-here _ _ _ _ (c .before .before .before .before .loop .inv .1 .1) (c .before .before .before .if1 .left) (sym (test (c .before)) ∙ c .if2 .taken))
 
 pub row-marked-spec : {M : Type 1} → statement M
 row-marked-spec =

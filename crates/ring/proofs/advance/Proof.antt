@@ -3,7 +3,7 @@ use mathlib.Core.Path.{_∙_}
 use native.Mathlib.Omega.{arith}
 use lib.ListN.{length-set}
 use Rattle.paper.proofs.WordViews.{nextRow-lt}
-use Rattle.ring.proofs.Turn.{next-fits, copy-fits, advanced-by}
+use Rattle.ring.proofs.Turn.{Next, next-fits, copy-fits, advanced-by}
 use borrow.Author.Needs.{needs}
 use Rattle.ring.proofs.advance.Statement.{statement}
 use Rattle.ring.proofs.advance.Tie as tie
@@ -36,18 +36,23 @@ row-start-requires c κs =
 row-start-requires-2 : tie.Need-row-start-requires-2
 row-start-requires-2 c κs = search needs
 
+-- the rows, before the copy
+rows : (c : tie.After-row-start2)
+    → Next (c .before .before .before .before .before .before .before .before .before .before .before .args .room .now) (c .before .before .before .before .wide3 .result) (c .before .before .before .before .before .before .before .before .wide .result) (c .before .before .before .before .before .before .wide2 .result) (c .before .before .before .next-row .result)
+    (c .row-start2 .result) (c .before .before .row-start .result)
+rows c =
+    record {
+      facts = c .before .before .before .before .before .before .before .before .before .before .before .pre;
+      rows = c .before .before .before .before .wide3 .ensures .0;
+      count = c .before .before .before .before .before .before .before .before .wide .ensures .0;
+      row = c .before .before .before .before .before .before .wide2 .ensures .0;
+      ahead = c .before .before .before .next-row .ensures;
+      source = c .row-start2 .ensures;
+      target = c .before .before .row-start .ensures;
+    }
+
 copy-records-requires : tie.Need-copy-records-requires
-copy-records-requires c κs =
-    let from = c in
-    let to = from .before .before in
-    let next = to .before in
-    let rows = next .before in
-    let row = rows .before .before in
-    let count = row .before .before in
-    let start = count .before .before .before in
-    copy-fits (start .args .room .now) (rows .wide3 .result) (count .wide .result) (row .wide2 .result) (next .next-row .result)
-    (from .row-start2 .result) (to .row-start .result) (rows .wide3 .ensures .0) (count .wide .ensures .0) (row .wide2 .ensures .0)
-    (next .next-row .ensures) (from .row-start2 .ensures) (to .row-start .ensures) (start .pre)
+copy-records-requires c κs = copy-fits (rows c)
 
 cast-room : tie.Need-cast-room
 cast-room c =
@@ -62,17 +67,9 @@ row-size-requires c κs = search needs
 
 add-e : tie.Need-add-e
 add-e c =
-    let from = c .before .before .before .before in
-    let to = from .before .before in
-    let next = to .before in
-    let rows = next .before in
-    let row = rows .before .before in
-    let count = row .before .before in
-    let start = count .before .before .before in
-    let fits = next-fits (start .args .room .now) (rows .wide3 .result) (count .wide .result) (row .wide2 .result) (next .next-row .result)
-    (from .row-start2 .result) (to .row-start .result) (rows .wide3 .ensures .0) (count .wide .ensures .0) (row .wide2 .ensures .0)
-    (next .next-row .ensures) (from .row-start2 .ensures) (to .row-start .ensures) (start .pre) in
-    omega (arith, c .row-size .ensures)
+    let placed = c .before .before .before .before in
+    let start = placed .before .before .before .before .before .before .before .before .before .before .before in
+    omega (arith, next-fits (rows placed), c .row-size .ensures)
 
 sub-age-row : tie.Need-sub-age-row
 sub-age-row c = search needs
@@ -82,17 +79,8 @@ part-age-row-start c = search needs
 
 part-age-row-end : tie.Need-part-age-row-end
 part-age-row-end c =
-    let from = c .before .before .before .before in
-    let to = from .before .before in
-    let next = to .before in
-    let rows = next .before in
-    let row = rows .before .before in
-    let count = row .before .before in
-    let start = count .before .before .before in
-    let fits = next-fits (start .args .room .now) (rows .wide3 .result) (count .wide .result) (row .wide2 .result) (next .next-row .result)
-    (from .row-start2 .result) (to .row-start .result) (rows .wide3 .ensures .0) (count .wide .ensures .0) (row .wide2 .ensures .0)
-    (next .next-row .ensures) (from .row-start2 .ensures) (to .row-start .ensures) (start .pre) in
-    simp length-set (omega (arith, c .row-size .ensures, c .before .before .before .copy-records .kept .0))
+    let copy = c .before .before .before in
+    simp length-set (omega (arith, next-fits (rows (copy .before)), c .row-size .ensures, copy .copy-records .kept .0))
 
 age-row-requires : tie.Need-age-row-requires
 age-row-requires c κs = search needs
@@ -105,18 +93,7 @@ returns c =
     let aged = c .before .before in
     let sized = aged .before .before in
     let copy = sized .before .before .before in
-    let from = copy .before in
-    let to = from .before .before in
-    let next = to .before in
-    let rows = next .before in
-    let row = rows .before .before in
-    let count = row .before .before in
-    let start = count .before .before .before in
-    advanced-by (start .args .room .now) (rows .wide3 .result) (count .wide .result) (row .wide2 .result) (next .next-row .result)
-    (from .row-start2 .result) (to .row-start .result) (rows .wide3 .ensures .0) (count .wide .ensures .0) (row .wide2 .ensures .0)
-    (next .next-row .ensures) (from .row-start2 .ensures) (to .row-start .ensures)
-    (sized .row-size .result) (copy .copy-records .last .0) (aged .age-row .last .0)
-    (sized .row-size .ensures) (copy .copy-records .ensures) (aged .age-row .ensures)
+    advanced-by (rows (copy .before)) (sized .row-size .ensures) (copy .copy-records .ensures) (aged .age-row .ensures)
 
 pub advance-spec : {M : Type 1} → statement M
 advance-spec =

@@ -1,7 +1,8 @@
 -- The row that is lent is the current row; its mark decides first, then its subframe.
-use Prim.Native.Nat.{_<_}
+use Prim.Native.Nat.{_+_, _≤_, _<_}
 use mathlib.Core.Path.{ap, _∙_}
 use native.Mathlib.Omega.{arith}
+use lib.ListN.{length}
 use Rattle.paper.specs.Room.{depth, rowOf}
 use Rattle.rows.proofs.Where.{row-ends, row-lent}
 use Rattle.ring.proofs.Turn.{moves-blank, moves-marked}
@@ -27,13 +28,17 @@ row-start-requires c κs = search needs
 row-size-requires : tie.Need-row-size-requires
 row-size-requires c κs = search needs
 
-add-e : tie.Need-add-e
-add-e c =
+-- the current row lies within the room
+ends : (c : tie.After-row-size) → c .before .row-start .result + c .row-size .result ≤ length (c .before .before .before .before .before .before .before .args .room .now)
+ends c =
     let row = c .before .before in
     let count = row .before .before in
     let start = count .before .before .before in
     let h : row .wide2 .result < depth (start .args .room .now) = omega (arith, start .pre .inRing) in
-    omega (arith, row-ends (start .args .room .now) _ _ _ _ (count .wide .ensures .0) (c .before .row-start .ensures) (c .row-size .ensures) (start .pre) h)
+    row-ends (start .args .room .now) _ _ _ _ (count .wide .ensures .0) (c .before .row-start .ensures) (c .row-size .ensures) (start .pre) h
+
+add-e : tie.Need-add-e
+add-e c = omega (arith, ends c)
 
 sub-row : tie.Need-sub-row
 sub-row c = search needs
@@ -42,12 +47,7 @@ part-row-start : tie.Need-part-row-start
 part-row-start c = search needs
 
 part-row-end : tie.Need-part-row-end
-part-row-end c =
-    let row = c .before .before in
-    let count = row .before .before in
-    let start = count .before .before .before in
-    let h : row .wide2 .result < depth (start .args .room .now) = omega (arith, start .pre .inRing) in
-    omega (arith, row-ends (start .args .room .now) _ _ _ _ (count .wide .ensures .0) (c .before .row-start .ensures) (c .row-size .ensures) (start .pre) h)
+part-row-end c = omega (arith, ends c)
 
 shared-slice-read-if1 : tie.Need-shared-slice-read-if1
 shared-slice-read-if1 c = search needs

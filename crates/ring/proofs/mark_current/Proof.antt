@@ -1,7 +1,8 @@
 -- The part that is lent is the current row, and comes back marked.
-use Prim.Native.Nat.{_<_}
+use Prim.Native.Nat.{_+_, _≤_, _<_}
 use mathlib.Core.Path.{_∙_}
 use native.Mathlib.Omega.{arith}
+use lib.ListN.{length}
 use Rattle.paper.specs.Room.{depth}
 use Rattle.paper.specs.Feed.{markedAt, currentMarked}
 use Rattle.paper.proofs.Parts.{part-back-at}
@@ -28,13 +29,17 @@ row-start-requires c κs = search needs
 row-size-requires : tie.Need-row-size-requires
 row-size-requires c κs = search needs
 
-add-e : tie.Need-add-e
-add-e c =
+-- the current row lies within the room
+ends : (c : tie.After-row-size) → c .before .row-start .result + c .row-size .result ≤ length (c .before .before .before .before .before .before .before .args .room .now)
+ends c =
     let row = c .before .before in
     let count = row .before .before in
     let start = count .before .before .before in
     let h : row .wide2 .result < depth (start .args .room .now) = omega (arith, start .pre .inRing) in
-    omega (arith, row-ends (start .args .room .now) _ _ _ _ (count .wide .ensures .0) (c .before .row-start .ensures) (c .row-size .ensures) (start .pre) h)
+    row-ends (start .args .room .now) _ _ _ _ (count .wide .ensures .0) (c .before .row-start .ensures) (c .row-size .ensures) (start .pre) h
+
+add-e : tie.Need-add-e
+add-e c = omega (arith, ends c)
 
 sub-mark-row : tie.Need-sub-mark-row
 sub-mark-row c = search needs
@@ -43,12 +48,7 @@ part-mark-row-start : tie.Need-part-mark-row-start
 part-mark-row-start c = search needs
 
 part-mark-row-end : tie.Need-part-mark-row-end
-part-mark-row-end c =
-    let row = c .before .before in
-    let count = row .before .before in
-    let start = count .before .before .before in
-    let h : row .wide2 .result < depth (start .args .room .now) = omega (arith, start .pre .inRing) in
-    omega (arith, row-ends (start .args .room .now) _ _ _ _ (count .wide .ensures .0) (c .before .row-start .ensures) (c .row-size .ensures) (start .pre) h)
+part-mark-row-end c = omega (arith, ends c)
 
 mark-row-requires : tie.Need-mark-row-requires
 mark-row-requires c κs = search needs
