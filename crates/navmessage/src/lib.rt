@@ -8,7 +8,10 @@ ghost use Rattle.paper.specs.Time.{isTime, startOf};
 ghost use Rattle.paper.specs.Parts.{onPart};
 ghost use Rattle.paper.specs.Room.{rowSize, rowAt, slots, current};
 ghost use Rattle.paper.specs.Feed.{fedRow, fed};
-ghost use Rattle.paper.specs.Answer.{freshAnswer, freshRoom, feedAnswer, feedRoom, resetAnswer, resetRoom};
+ghost use Rattle.paper.specs.Answer.{freshAnswer, freshRoom, feedAnswer, feedRoom, tagAnswer, tagRoom, candidateAnswer, candidateData, askAnswer, askData, resetAnswer, resetRoom};
+ghost use Rattle.paper.specs.Record.{CED, Timing, familyIf};
+ghost use Rattle.navmessage.specs.Asked.{askedAnswer};
+ghost use Rattle.tags.specs.Place.{taggedAnswer};
 ghost use Rattle.paper.proofs.Views.{Facts};
 ghost use Rattle.refusals.specs.Reply.{answerOf};
 use gst::Gst;
@@ -16,6 +19,8 @@ use gst::NewTime;
 use refusals::Refusal;
 use refusals::Reply;
 use svn::Svn;
+use tags::Place;
+use tags::Tagged;
 
 // A fresh store of d rows and n slots at the start of the room.
 pub fn fresh(room: &mut [u8], d: u8, n: u8) -> Reply
@@ -82,4 +87,134 @@ pub fn feed(room: &mut [u8], word: &[u8], svn: Svn, gst: Gst, band: u8) -> Reply
     }
     feed_word(room, gst.wn.0, start_of(gst), svn.0, band, word);
     Reply::Done
+}
+
+// A tag that was checked: for which satellite and kind, with which COP and length, under which status, in a MACK of which time, over
+// which data, and with which verdict.
+pub fn tag(
+    room: &mut [u8],
+    svn: Svn,
+    kind: u8,
+    cop: u8,
+    bits: u8,
+    status: u8,
+    mack: Gst,
+    given: &[u8],
+    verdict: bool,
+) -> Tagged
+    ensures { λ r. ⌜ (taggedAnswer r ≡ tagAnswer (svn .0) kind cop bits status (mack .wn .0) (mack .tow .0) (now (given .entry)) verdict (now (room .entry))) × (now (room .exit) ≡ tagRoom (svn .0) kind cop bits status (mack .wn .0) (mack .tow .0) (now (given .entry)) verdict (now (room .entry))) ⌝ }
+{
+    let allowed = tags::tag_allowed(cop, bits);
+    let known = tags::tag_known(kind, status);
+    match tags::candidate_place(room, svn, kind, cop, mack, allowed, known) {
+        Place::At(at) => tags::accept(
+            room,
+            at,
+            kind == tags::TIMING,
+            svn.0,
+            bits,
+            status,
+            given,
+            verdict,
+        ),
+        Place::Refused(why) => Tagged::Refused(why),
+    }
+}
+
+// Whether a tag of this kind and COP has a candidate.
+pub fn candidate(room: &[u8], svn: Svn, kind: u8, cop: u8, mack: Gst) -> Reply
+    ensures { λ r. ⌜ answerOf r ≡ candidateAnswer (svn .0) kind cop (mack .wn .0) (mack .tow .0) (now (room .entry)) ⌝ }
+{
+    let allowed = entry::cop_allowed(cop);
+    let known = entry::kind_known(kind);
+    match tags::candidate_place(room, svn, kind, cop, mack, allowed, known) {
+        Place::At(_) => Reply::Done,
+        Place::Refused(why) => Reply::Refused(why),
+    }
+}
+
+// The candidate's data as part of the room, or the empty part.
+pub fn candidate_data(room: &[u8], svn: Svn, kind: u8, cop: u8, mack: Gst) -> &[u8]
+    ensures { λ r. ⌜ now r ≡ candidateData (svn .0) kind cop (mack .wn .0) (mack .tow .0) (now (room .entry)) ⌝ }
+{
+    let allowed = entry::cop_allowed(cop);
+    let known = entry::kind_known(kind);
+    match tags::candidate_place(room, svn, kind, cop, mack, allowed, known) {
+        Place::At(at) => tags::data_of(room, at, kind == tags::TIMING),
+        Place::Refused(_) => &room[0..0],
+    }
+}
+
+// What a record hands out beside its data: its count, and its row's subframe less 30 s for each of its least age.
+pub struct Reading {
+    pub authbits: u16,
+    pub gst: Gst,
+}
+
+// What asking for a satellite's data came to.
+pub enum Asked {
+    Found(Reading),
+    Refused(Refusal),
+}
+
+// "Asking 3, 4, 12, 7"
+fn ask_for(room: &[u8], timing: bool, svn: Svn) -> Asked
+    ensures { λ r. ⌜ askedAnswer r ≡ askAnswer (familyIf timing) (svn .0) (now (room .entry)) ⌝ }
+{
+    if !store::is_store(room) {
+        return Asked::Refused(Refusal::NotAStore);
+    }
+    if !svn.is_satellite() {
+        return Asked::Refused(Refusal::NoSatellite);
+    }
+    match ask::ask(room, timing, svn.0) {
+        ask::Asked::Told(_, authbits, gst) => Asked::Found(Reading { authbits, gst }),
+        ask::Asked::NotEnough => Asked::Refused(Refusal::NotEnough),
+        ask::Asked::OutOfTime => Asked::Refused(Refusal::OutOfTime),
+    }
+}
+
+// The data of the record that answers, or the empty part.
+fn data_for(room: &[u8], timing: bool, svn: Svn) -> &[u8]
+    ensures { λ r. ⌜ now r ≡ askData (familyIf timing) (svn .0) (now (room .entry)) ⌝ }
+{
+    if !store::is_store(room) {
+        return &room[0..0];
+    }
+    if !svn.is_satellite() {
+        return &room[0..0];
+    }
+    match ask::ask(room, timing, svn.0) {
+        ask::Asked::Told(at, _, _) => tags::data_of(room, at, timing),
+        ask::Asked::NotEnough => &room[0..0],
+        ask::Asked::OutOfTime => &room[0..0],
+    }
+}
+
+// Authenticated ephemeris, clock and status of a satellite: its count and time.
+pub fn get_ced_and_status(room: &[u8], svn: Svn) -> Asked
+    ensures { λ r. ⌜ askedAnswer r ≡ askAnswer CED (svn .0) (now (room .entry)) ⌝ }
+{
+    ask_for(room, false, svn)
+}
+
+// Authenticated timing parameters of a satellite: their count and time.
+pub fn get_timing_parameters(room: &[u8], svn: Svn) -> Asked
+    ensures { λ r. ⌜ askedAnswer r ≡ askAnswer Timing (svn .0) (now (room .entry)) ⌝ }
+{
+    ask_for(room, true, svn)
+}
+
+// The 69 bytes behind `get_ced_and_status` as part of the room, or the empty part.
+pub fn ced_and_status_data(room: &[u8], svn: Svn) -> &[u8]
+    ensures { λ r. ⌜ now r ≡ askData CED (svn .0) (now (room .entry)) ⌝ }
+{
+    data_for(room, false, svn)
+}
+
+// The 18 bytes behind `get_timing_parameters` as part of the room, or the empty part.
+pub fn timing_parameters_data(room: &[u8], svn: Svn) -> &[u8]
+    ensures { λ r. ⌜ now r ≡ askData Timing (svn .0) (now (room .entry)) ⌝ }
+{
+    data_for(room, true, svn)
 }
