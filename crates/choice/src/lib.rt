@@ -24,13 +24,6 @@ enum Place {
     Nowhere,
 }
 
-// Where the records of a family start in their slots.
-fn base(timing: bool) -> usize
-    ensures { λ r. ⌜ r ≡ base (familyIf timing) ⌝ }
-{
-    if timing { TIMING_AT } else { 0 }
-}
-
 // The last of n slots whose record, `base` bytes from the slot's start, is of the satellite.
 fn last_of(row: &[u8], base: usize, n: usize, sat: u8) -> Place
     requires { ⌜ (n ≤ mostSlots) × (base < slotSize) × (rowSize n ≤ length (now row)) ⌝ }
@@ -118,7 +111,7 @@ fn choose(row: &[u8], timing: bool, n: usize, sat: u8) -> usize
     requires { ⌜ (1 ≤ n) × (n ≤ mostSlots) × (rowSize n ≤ length (now row)) ⌝ }
     ensures { λ r. ⌜ (r ≡ chosen (familyIf timing) sat n (now (row .entry))) × (r < n) ⌝ }
 {
-    let Place::At(slot) = last_of(row, base(timing), n, sat) else {
+    let Place::At(slot) = last_of(row, layout::base(timing), n, sat) else {
         return by_keys(row, timing, n, sat);
     };
     slot

@@ -9,31 +9,9 @@ ghost use Rattle.paper.specs.Room.{base, slotSize, rowSize, roomSize, inSlot, e
 ghost use Rattle.paper.specs.Parts.{part, onParts, sumParts};
 ghost use Rattle.paper.specs.Tag.{matches, credited};
 ghost use Rattle.credit.specs.Slot.{takes};
-use records::Ced;
-use records::Timing;
-
-// The sizes of a family.
-fn size_of(timing: bool) -> usize
-    ensures { λ r. ⌜ (r ≡ size (familyIf timing)) × (r ≤ 77) ⌝ }
-{
-    if timing { Timing::SIZE } else { Ced::SIZE }
-}
-
-fn data_at(timing: bool) -> usize
-    ensures { λ r. ⌜ r ≡ dataAt (familyIf timing) ⌝ }
-{
-    if timing {
-        Timing::SIZE - Timing::BYTES
-    } else {
-        Ced::SIZE - Ced::BYTES
-    }
-}
-
-fn base_of(timing: bool) -> usize
-    ensures { λ r. ⌜ r ≡ base (familyIf timing) ⌝ }
-{
-    if timing { Ced::SIZE } else { 0 }
-}
+use layout::HEADER;
+use layout::ROW_HEAD;
+use layout::SLOT;
 
 // Whether the first n bytes are the same.
 fn same_bytes(a: &[u8], b: &[u8], n: usize) -> bool
@@ -87,12 +65,12 @@ fn credit_slot(slot: &mut [u8], timing: bool, sat: u8, bits: &[u8], added: u8) -
     requires { ⌜ (length (now slot) ≡ 100) × (length (now bits) ≡ dataBytes (familyIf timing)) ⌝ }
     ensures { λ r. ⌜ (now (slot .exit) ≡ inSlot (familyIf timing) (credited (familyIf timing) sat (now (bits .entry)) added) (now (slot .entry))) × (r ≡ takes (familyIf timing) sat (now (bits .entry)) (now (slot .entry))) ⌝ }
 {
-    let a = base_of(timing);
+    let a = layout::base(timing);
     if slot[a] != sat {
         return 0;
     }
-    let e = a + size_of(timing);
-    let d = a + data_at(timing);
+    let e = a + records::size_of(timing);
+    let d = a + records::data_at(timing);
     if !same_bits(&slot[d..e], bits, timing) {
         return 0;
     }
@@ -106,10 +84,10 @@ fn credit_row(row: &mut [u8], n: usize, timing: bool, sat: u8, bits: &[u8], adde
     ensures { λ r. ⌜ (now (row .exit) ≡ eachRecord (familyIf timing) n (credited (familyIf timing) sat (now (bits .entry)) added) (now (row .entry))) × ((r ≡ howMany (familyIf timing) n (matches (familyIf timing) sat (now (bits .entry))) (now (row .entry))) × (r ≤ n)) ⌝ }
 {
     let mut total: u32 = 0;
-    let mut at: usize = 8;
+    let mut at = ROW_HEAD;
     let mut left = n;
     while left > 0 {
-        let e = at + 100;
+        let e = at + SLOT;
         total += credit_slot(&mut row[at..e], timing, sat, bits, added);
         at = e;
         left -= 1;
@@ -130,9 +108,9 @@ pub fn credit_rows(
     requires { ⌜ (d ≤ 255) × ((n ≤ 36) × ((roomSize d n ≤ length (now room)) × (length (now bits) ≡ dataBytes (familyIf timing)))) ⌝ }
     ensures { λ r. ⌜ (now (room .exit) ≡ onParts (eachRecord (familyIf timing) n (credited (familyIf timing) sat (now (bits .entry)) added)) (rowSize n) d 8 (now (room .entry))) × (r ≡ sumParts (howMany (familyIf timing) n (matches (familyIf timing) sat (now (bits .entry)))) (rowSize n) d 8 (now (room .entry))) ⌝ }
 {
-    let width = 8 + n * 100;
+    let width = ROW_HEAD + n * SLOT;
     let mut total: u32 = 0;
-    let mut at: usize = 8;
+    let mut at = HEADER;
     let mut left = d;
     while left > 0 {
         let e = at + width;

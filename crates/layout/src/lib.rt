@@ -1,5 +1,8 @@
 // The sizes and limits of the lent room, once for all code (those of a record are its kind's own): a header, then rows of a head and
 // N slots, a slot being one CED record and behind it one timing record.
+ghost use mathlib.Core.Path.{_≡_};
+ghost use Rattle.paper.specs.Record.{familyIf};
+ghost use Rattle.paper.specs.Room.{base};
 use records::Ced;
 use records::Timing;
 
@@ -22,3 +25,10 @@ pub const ROW_HEAD: usize = 8;
 pub const TIMING_AT: usize = Ced::SIZE;
 
 pub const SLOT: usize = Ced::SIZE + Timing::SIZE;
+
+// Where a record starts in its slot, from whether it is timing.
+pub fn base(timing: bool) -> usize
+    ensures { λ r. ⌜ r ≡ base (familyIf timing) ⌝ }
+{
+    if timing { TIMING_AT } else { 0 }
+}

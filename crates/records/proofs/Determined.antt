@@ -24,6 +24,12 @@ use Rattle.records.proofs.Timing.greatest.Reads as timing-greatest-read
 use Rattle.records.proofs.Timing.greatest.Kinds as timing-greatest-kinds
 use Rattle.records.proofs.Timing.least.Reads as timing-least-reads
 use Rattle.records.proofs.Timing.least.Kinds as timing-least-kinds
+use Rattle.records.proofs.size_of.Reads as size-of-reads
+use Rattle.records.proofs.size_of.Kinds as size-of-kinds
+use Rattle.records.proofs.bytes_of.Reads as bytes-of-reads
+use Rattle.records.proofs.bytes_of.Kinds as bytes-of-kinds
+use Rattle.records.proofs.data_at.Reads as data-at-reads
+use Rattle.records.proofs.data_at.Kinds as data-at-kinds
 
 pub ced-ages-determined :
     (κs : Lfts 1)
@@ -104,3 +110,27 @@ pub timing-least-determined :
     (e e' : AtExit (endedOf 0 timing-least-kinds.ps timing-least-kinds.r) κs)
     → timing-least-reads.Post κs a r e → timing-least-reads.Post κs a r' e' → r ≡ r'
 timing-least-determined κs a r r' e e' p q = p ∙ sym q
+
+pub size-of-determined :
+    (κs : Lfts 0)
+    (a : Dens κs size-of-kinds.ps)
+    (r r' : resT size-of-kinds.r κs .Denot)
+    (e e' : AtExit (endedOf 0 size-of-kinds.ps size-of-kinds.r) κs)
+    → size-of-reads.Post κs a r e → size-of-reads.Post κs a r' e' → r ≡ r'
+size-of-determined κs a r r' e e' p q = p ∙ sym q
+
+pub bytes-of-determined :
+    (κs : Lfts 0)
+    (a : Dens κs bytes-of-kinds.ps)
+    (r r' : resT bytes-of-kinds.r κs .Denot)
+    (e e' : AtExit (endedOf 0 bytes-of-kinds.ps bytes-of-kinds.r) κs)
+    → bytes-of-reads.Post κs a r e → bytes-of-reads.Post κs a r' e' → r ≡ r'
+bytes-of-determined κs a r r' e e' p q = p ∙ sym q
+
+pub data-at-determined :
+    (κs : Lfts 0)
+    (a : Dens κs data-at-kinds.ps)
+    (r r' : resT data-at-kinds.r κs .Denot)
+    (e e' : AtExit (endedOf 0 data-at-kinds.ps data-at-kinds.r) κs)
+    → data-at-reads.Post κs a r e → data-at-reads.Post κs a r' e' → r ≡ r'
+data-at-determined κs a r r' e e' p q = p ∙ sym q

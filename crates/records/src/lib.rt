@@ -5,7 +5,7 @@ ghost use mathlib.Core.List.{map};
 ghost use Prim.Native.Nat.{max, min};
 ghost use lib.ListN.{length};
 ghost use Rattle.paper.specs.Parts.{onPart};
-ghost use Rattle.paper.specs.Record.{CED, Timing as TIMING, ages, size, agesOf, older, greatest, least};
+ghost use Rattle.paper.specs.Record.{CED, Timing as TIMING, familyIf, ages, size, dataAt, dataBytes, agesOf, older, greatest, least};
 
 // The ages of a record of either kind stand behind its satellite and its count.
 const AGES_FROM: usize = 3;
@@ -117,6 +117,31 @@ impl Timing {
         ensures { λ r. ⌜ r ≡ least ages ⌝ }
     {
         least_of(&ages)
+    }
+}
+
+// The whole record of either kind, from whether it is timing.
+pub fn size_of(timing: bool) -> usize
+    ensures { λ r. ⌜ r ≡ size (familyIf timing) ⌝ }
+{
+    if timing { Timing::SIZE } else { Ced::SIZE }
+}
+
+// Its data.
+pub fn bytes_of(timing: bool) -> usize
+    ensures { λ r. ⌜ r ≡ dataBytes (familyIf timing) ⌝ }
+{
+    if timing { Timing::BYTES } else { Ced::BYTES }
+}
+
+// Where its data starts: the last bytes of a record are its data.
+pub fn data_at(timing: bool) -> usize
+    ensures { λ r. ⌜ r ≡ dataAt (familyIf timing) ⌝ }
+{
+    if timing {
+        Timing::SIZE - Timing::BYTES
+    } else {
+        Ced::SIZE - Ced::BYTES
     }
 }
 

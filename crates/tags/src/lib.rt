@@ -16,8 +16,6 @@ ghost use Rattle.tags.specs.Place.{Placed, Sought, taggedAnswer, accepte
 use gst::Gst;
 use gst::NewTime;
 use lookup::Found;
-use records::Ced;
-use records::Timing;
 use refusals::Refusal;
 use refusals::Reply;
 use svn::Svn;
@@ -110,25 +108,13 @@ pub fn candidate_place(
     }
 }
 
-fn size_of(timing: bool) -> usize
-    ensures { λ r. ⌜ r ≡ size (familyIf timing) ⌝ }
-{
-    if timing { Timing::SIZE } else { Ced::SIZE }
-}
-
-fn bytes_of(timing: bool) -> usize
-    ensures { λ r. ⌜ r ≡ dataBytes (familyIf timing) ⌝ }
-{
-    if timing { Timing::BYTES } else { Ced::BYTES }
-}
-
 // The data of the record that starts at `at`.
 pub fn data_of(room: &[u8], at: usize, timing: bool) -> &[u8]
     requires { ⌜ at + size (familyIf timing) ≤ length (now room) ⌝ }
     ensures { λ r. ⌜ now r ≡ part (at + dataAt (familyIf timing)) (dataBytes (familyIf timing)) (now (room .entry)) ⌝ }
 {
-    let e = at + size_of(timing);
-    let a = e - bytes_of(timing);
+    let e = at + records::size_of(timing);
+    let a = e - records::bytes_of(timing);
     &room[a..e]
 }
 
@@ -137,11 +123,11 @@ fn given_agrees(room: &[u8], at: usize, timing: bool, given: &[u8]) -> bool
     requires { ⌜ at + size (familyIf timing) ≤ length (now room) ⌝ }
     ensures { λ r. ⌜ r ≡ givenAgrees (familyIf timing) (now (given .entry)) (part at (size (familyIf timing)) (now (room .entry))) ⌝ }
 {
-    if given.len() != bytes_of(timing) {
+    if given.len() != records::bytes_of(timing) {
         return false;
     }
-    let e = at + size_of(timing);
-    let a = e - bytes_of(timing);
+    let e = at + records::size_of(timing);
+    let a = e - records::bytes_of(timing);
     credit::same_bits(given, &room[a..e], timing)
 }
 

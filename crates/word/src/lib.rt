@@ -76,17 +76,6 @@ fn owned_timing(kind: u8, band: u8) -> Owned
     }
 }
 
-// Where the data starts in a record.
-fn data_at(timing: bool) -> usize
-    ensures { λ r. ⌜ r ≡ dataAt (familyIf timing) ⌝ }
-{
-    if timing {
-        Timing::SIZE - Timing::BYTES
-    } else {
-        Ced::SIZE - Ced::BYTES
-    }
-}
-
 fn clear_count_if(bytes: &mut [u8], cleared: bool)
     requires { ⌜ 3 ≤ length (now bytes) ⌝ }
     ensures { λ _. ⌜ now (bytes .exit) ≡ cond cleared (withCount 0 (now (bytes .entry))) (now (bytes .entry)) ⌝ }
@@ -154,7 +143,7 @@ fn write_bits(
     requires { ⌜ (to + n ≤ recordBits (familyIf timing)) × (from + n ≤ 128) × (age < ages (familyIf timing)) ⌝ }
     ensures { λ _. ⌜ now (bytes .exit) ≡ written (familyIf timing) (owns to from n age) (now (word .entry)) (now (bytes .entry)) ⌝ }
 {
-    let start = data_at(timing);
+    let start = records::data_at(timing);
     let end = bytes.len();
     let changed = bits::move_bits(&mut bytes[start..end], to, word, from, n);
     bytes[AGES + age] = 0;

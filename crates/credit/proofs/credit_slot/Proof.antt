@@ -14,14 +14,14 @@ use Rattle.credit.proofs.Slots.{sizes, other-lent, differs-lent, agrees
 use Rattle.credit.proofs.credit_slot.Statement.{statement}
 use Rattle.credit.proofs.credit_slot.Tie as tie
 
-base-of-requires : tie.Need-base-of-requires
-base-of-requires c κs = search needs
+base-requires : tie.Need-base-requires
+base-requires c κs = search needs
 
 slice-read-if1 : tie.Need-slice-read-if1
 slice-read-if1 c = omega (arith, sizes (c .before .before .before .before .args .timing))
 
 returns : tie.Need-returns
-returns c = other-lent (familyIf (c .before .before .before .before .before .args .timing)) (sizes (c .before .before .before .before .before .args .timing)) (c .before .before .before .before .before .args .sat) (c .before .before .before .before .before .args .bits .now) (c .before .before .before .before .before .args .added) (c .before .before .before .before .before .args .slot .now) (c .before .before .base-of .result) (size (familyIf (c .before .before .before .before .before .args .timing))) (dataAt (familyIf (c .before .before .before .before .before .args .timing))) (c .before .before .base-of .ensures) refl refl (c .if1 .taken)
+returns c = other-lent (familyIf (c .before .before .before .before .before .args .timing)) (sizes (c .before .before .before .before .before .args .timing)) (c .before .before .before .before .before .args .sat) (c .before .before .before .before .before .args .bits .now) (c .before .before .before .before .before .args .added) (c .before .before .before .before .before .args .slot .now) (c .before .before .base .result) (size (familyIf (c .before .before .before .before .before .args .timing))) (dataAt (familyIf (c .before .before .before .before .before .args .timing))) (c .before .before .base .ensures) refl refl (c .if1 .taken)
 
 size-of-requires : tie.Need-size-of-requires
 size-of-requires c κs = search needs
@@ -51,7 +51,7 @@ same-length : tie.Need-same-length
 same-length c = search needs
 
 returns-2 : tie.Need-returns-2
-returns-2 c = differs-lent (familyIf (c .before .before .before .before .before .before .before .before .before .before .before .args .timing)) (sizes (c .before .before .before .before .before .before .before .before .before .before .before .args .timing)) (c .before .before .before .before .before .before .before .before .before .before .before .args .sat) (c .before .before .before .before .before .before .before .before .before .before .before .args .bits .now) (c .before .before .before .before .before .before .before .before .before .before .before .args .added) (c .before .before .before .before .before .before .before .before .before .before .before .args .slot .now) (c .before .before .before .before .before .before .before .before .base-of .result) (c .before .before .before .before .before .size-of .result) (c .before .before .before .before .data-at .result) (c .before .before .before .before .before .before .before .before .base-of .ensures) (c .before .before .before .before .before .size-of .ensures .0) (c .before .before .before .before .data-at .ensures) _ (c .before .same-bits .ensures) (not-true _ (c .if2 .taken))
+returns-2 c = differs-lent (familyIf (c .before .before .before .before .before .before .before .before .before .before .before .args .timing)) (sizes (c .before .before .before .before .before .before .before .before .before .before .before .args .timing)) (c .before .before .before .before .before .before .before .before .before .before .before .args .sat) (c .before .before .before .before .before .before .before .before .before .before .before .args .bits .now) (c .before .before .before .before .before .before .before .before .before .before .before .args .added) (c .before .before .before .before .before .before .before .before .before .before .before .args .slot .now) (c .before .before .before .before .before .before .before .before .base .result) (c .before .before .before .before .before .size-of .result) (c .before .before .before .before .data-at .result) (c .before .before .before .before .before .before .before .before .base .ensures) (c .before .before .before .before .before .size-of .ensures) (c .before .before .before .before .data-at .ensures) _ (c .before .same-bits .ensures) (not-true _ (c .if2 .taken))
 
 sub-add-length : tie.Need-sub-add-length
 sub-add-length c = search needs
@@ -69,13 +69,13 @@ same-length-2 : tie.Need-same-length-2
 same-length-2 c = search needs
 
 returns-3 : tie.Need-returns-3
-returns-3 c = agrees-lent (familyIf (c .before .before .before .before .before .before .before .before .before .before .before .before .before .before .before .args .timing)) (sizes (c .before .before .before .before .before .before .before .before .before .before .before .before .before .before .before .args .timing)) (c .before .before .before .before .before .before .before .before .before .before .before .before .before .before .before .args .sat) (c .before .before .before .before .before .before .before .before .before .before .before .before .before .before .before .args .bits .now) (c .before .before .before .before .before .before .before .before .before .before .before .before .before .before .before .args .added) (c .before .before .before .before .before .before .before .before .before .before .before .before .before .before .before .args .slot .now) (c .before .before .before .before .before .before .before .before .before .before .before .before .base-of .result) (c .before .before .before .before .before .before .before .before .before .size-of .result) (c .before .before .before .before .before .before .before .before .data-at .result) (c .before .before .before .before .before .before .before .before .before .before .before .before .base-of .ensures) (c .before .before .before .before .before .before .before .before .before .size-of .ensures .0) (c .before .before .before .before .before .before .before .before .data-at .ensures) _ _ (c .before .before .before .before .before .before .before .before .before .before .if1 .left) (c .before .before .before .before .before .same-bits .ensures) (not-false _ (c .before .before .before .before .if2 .left)) (c .before .before .add-length .ensures)
+returns-3 c = agrees-lent (familyIf (c .before .before .before .before .before .before .before .before .before .before .before .before .before .before .before .args .timing)) (sizes (c .before .before .before .before .before .before .before .before .before .before .before .before .before .before .before .args .timing)) (c .before .before .before .before .before .before .before .before .before .before .before .before .before .before .before .args .sat) (c .before .before .before .before .before .before .before .before .before .before .before .before .before .before .before .args .bits .now) (c .before .before .before .before .before .before .before .before .before .before .before .before .before .before .before .args .added) (c .before .before .before .before .before .before .before .before .before .before .before .before .before .before .before .args .slot .now) (c .before .before .before .before .before .before .before .before .before .before .before .before .base .result) (c .before .before .before .before .before .before .before .before .before .size-of .result) (c .before .before .before .before .before .before .before .before .data-at .result) (c .before .before .before .before .before .before .before .before .before .before .before .before .base .ensures) (c .before .before .before .before .before .before .before .before .before .size-of .ensures) (c .before .before .before .before .before .before .before .before .data-at .ensures) _ _ (c .before .before .before .before .before .before .before .before .before .before .if1 .left) (c .before .before .before .before .before .same-bits .ensures) (not-false _ (c .before .before .before .before .if2 .left)) (c .before .before .add-length .ensures)
 
 pub credit-slot-spec : {M : Type 1} → statement M
 credit-slot-spec =
     tie.close
     (tie.spec
-    base-of-requires
+    base-requires
     slice-read-if1
     returns
     size-of-requires
