@@ -9,34 +9,74 @@ use lib.Dec.{eqb}
 use lib.ListN.{length, take, drop, getD, drop-of-length-le}
 use lib.Seq.{drop-cons, length-take-le, getD-take}
 use Prim.Native.Nat.{ℕ, zero, suc, _+_, _-_, _/_, _≤_, _<_}
+use Rattle.paper.specs.Big.{be16, be32}
+use Rattle.paper.specs.Parts.{Bytes}
 use Rattle.paper.specs.Record.{Family, CED, Timing, familyIf, dataBytes, sameList, sameBits}
+use Rattle.paper.proofs.Big.{be32-before}
+use Rattle.paper.proofs.Same.{list-true}
 
 one-more : (a b : List ℕ) (i : ℕ) → i < length a → i < length b
     → sameList (drop i a) (drop i b) ≡ (eqb (getD a i 0) (getD b i 0) && sameList (drop (i + 1) a) (drop (i + 1) b))
 unfolding sameList
 one-more a b i h k = rw (add-one, drop-cons a i 0 h, drop-cons b i 0 k)
 
-module _ (n i : ℕ) (a b : List ℕ) (na : n ≤ length a) (nb : n ≤ length b)
-    (e : sameList (take n a) (take n b) ≡ sameList (drop i (take n a)) (drop i (take n b))) where
-  turn : i < n
-      → sameList (take n a) (take n b) ≡ (eqb (getD a i 0) (getD b i 0) && sameList (drop (i + 1) (take n a)) (drop (i + 1) (take n b)))
+module _ (n i : ℕ) (a b : List ℕ) (na : n ≤ length a) (nb : n ≤ length b) (whole : Bool)
+    (e : whole ≡ sameList (drop i (take n a)) (drop i (take n b))) where
+  turn : i < n → whole ≡ (eqb (getD a i 0) (getD b i 0) && sameList (drop (i + 1) (take n a)) (drop (i + 1) (take n b)))
   turn h =
       let la : i < length (take n a) = omega (arith, length-take-le n a na) in
       let lb : i < length (take n b) = omega (arith, length-take-le n b nb) in
       rw (getD-take n a i 0 h, getD-take n b i 0 h) at (e ∙ one-more (take n a) (take n b) i la lb)
 
-  pub bytes-differ : i < n → (getD a i 0 ≡ getD b i 0 → ⊥) → false ≡ sameList (take n a) (take n b)
+  pub bytes-differ : i < n → (getD a i 0 ≡ getD b i 0 → ⊥) → false ≡ whole
   bytes-differ h d = sym (rw (ne-eqb (getD a i 0) (getD b i 0) d) at (turn h))
 
-  pub bytes-go : i < n → getD a i 0 ≡ getD b i 0 → sameList (take n a) (take n b) ≡ sameList (drop (i + 1) (take n a)) (drop (i + 1) (take n b))
+  pub bytes-go : i < n → getD a i 0 ≡ getD b i 0 → whole ≡ sameList (drop (i + 1) (take n a)) (drop (i + 1) (take n b))
   bytes-go h q = rw (eq-eqb (getD a i 0) (getD b i 0) q) at (turn h)
 
-  pub bytes-done : n ≤ i → true ≡ sameList (take n a) (take n b)
+  pub bytes-done : n ≤ i → true ≡ whole
   unfolding sameList
   bytes-done h =
       let za : drop i (take n a) ≡ [] = drop-of-length-le (take n a) {i = i} (omega (arith, length-take-le n a na)) in
       let zb : drop i (take n b) ≡ [] = drop-of-length-le (take n b) {i = i} (omega (arith, length-take-le n b nb)) in
       sym (e ∙ rw (za, zb))
+
+-- four bytes that are one number
+four-same : (a b : List ℕ) (i : ℕ) → Bytes a → Bytes b → be32 a i ≡ be32 b i
+    → (getD a i 0 ≡ getD b i 0)
+    × ((getD a (i + 1) 0 ≡ getD b (i + 1) 0) × ((getD a (i + 2) 0 ≡ getD b (i + 2) 0) × (getD a (i + 2 + 1) 0 ≡ getD b (i + 2 + 1) 0)))
+unfolding be32 be16
+four-same a b i ba bb e =
+    let a0 = ba i in
+    let a1 = ba (i + 1) in
+    let a2 = ba (i + 2) in
+    let a3 = ba (i + 2 + 1) in
+    let b0 = bb i in
+    let b1 = bb (i + 1) in
+    let b2 = bb (i + 2) in
+    let b3 = bb (i + 2 + 1) in
+    (omega arith, (omega arith, (omega arith, omega arith)))
+
+module _ (n i : ℕ) (a b : List ℕ) (na : n ≤ length a) (nb : n ≤ length b) (h : i + 4 ≤ n) where
+  pub words-differ : (be32 a i ≡ be32 b i → ⊥) → false ≡ sameList (take n a) (take n b)
+  words-differ d = go (sameList (take n a) (take n b)) refl
+    where
+      go : (t : Bool) → sameList (take n a) (take n b) ≡ t → false ≡ t
+      go true e = absurd (d (be32-before n i a b (list-true (take n a) (take n b) e) h))
+      go false e = refl
+
+  pub words-go : Bytes a → Bytes b → (whole : Bool) → whole ≡ sameList (drop i (take n a)) (drop i (take n b)) → be32 a i ≡ be32 b i
+      → whole ≡ sameList (drop (i + 4) (take n a)) (drop (i + 4) (take n b))
+  words-go ba bb whole e q =
+      let s = four-same a b i ba bb q in
+      let z2 : i + 2 ≡ i + 1 + 1 = omega arith in
+      let z3 : i + 2 + 1 ≡ i + 1 + 1 + 1 = omega arith in
+      let z4 : i + 4 ≡ i + 1 + 1 + 1 + 1 = omega arith in
+      let w1 = bytes-go n i a b na nb whole e (omega arith) (s .0) in
+      let w2 = bytes-go n (i + 1) a b na nb whole w1 (omega arith) (s .1 .0) in
+      let w3 = bytes-go n (i + 1 + 1) a b na nb whole w2 (omega arith) (rw z2 at (s .1 .1 .0)) in
+      let w4 = bytes-go n (i + 1 + 1 + 1) a b na nb whole w3 (omega arith) (rw z3 at (s .1 .1 .1)) in
+      rw z4 w4
 
 swap : (p q r : Bool) → (p && (q && r)) ≡ (q && (p && r))
 swap true q r = refl

@@ -3,7 +3,7 @@
 ghost use mathlib.Core.Path.{_≡_};
 ghost use mathlib.Core.Bool.{cond};
 ghost use Prim.Native.Nat.{_+_, _*_, _≤_, _<_, min};
-ghost use lib.ListN.{length, take, getD};
+ghost use lib.ListN.{length, take, drop, getD};
 ghost use Rattle.paper.specs.Record.{familyIf, size, dataAt, dataBytes, count, sameList, sameBits, withCount};
 ghost use Rattle.paper.specs.Room.{base, slotSize, rowSize, roomSize, inSlot, eachRecord, everyRecord, howMany, howManyIn, depth, slots};
 ghost use Rattle.paper.specs.Parts.{part, onParts, sumParts};
@@ -13,12 +13,12 @@ use layout::HEADER;
 use layout::ROW_HEAD;
 use layout::SLOT;
 
-// Whether the first n bytes are the same.
-fn same_bytes(a: &[u8], b: &[u8], n: usize) -> bool
-    requires { ⌜ (n ≤ length (now a)) × (n ≤ length (now b)) ⌝ }
-    ensures { λ r. ⌜ r ≡ sameList (take n (now (a .entry))) (take n (now (b .entry))) ⌝ }
+// Whether the bytes from `from` to n are the same.
+fn same_bytes(a: &[u8], b: &[u8], from: usize, n: usize) -> bool
+    requires { ⌜ (from ≤ n) × ((n ≤ length (now a)) × (n ≤ length (now b))) ⌝ }
+    ensures { λ r. ⌜ r ≡ sameList (drop from (take n (now (a .entry)))) (drop from (take n (now (b .entry)))) ⌝ }
 {
-    let mut i: usize = 0;
+    let mut i = from;
     while i < n {
         if a[i] != b[i] {
             return false;
@@ -26,6 +26,21 @@ fn same_bytes(a: &[u8], b: &[u8], n: usize) -> bool
         i += 1;
     }
     true
+}
+
+// Whether the first n bytes are the same: four at a time, and then those that remain.
+fn same_first(a: &[u8], b: &[u8], n: usize) -> bool
+    requires { ⌜ (n ≤ length (now a)) × (n ≤ length (now b)) ⌝ }
+    ensures { λ r. ⌜ r ≡ sameList (take n (now (a .entry))) (take n (now (b .entry))) ⌝ }
+{
+    let mut i: usize = 0;
+    while n - i >= 4 {
+        if numbers::read32(a, i) != numbers::read32(b, i) {
+            return false;
+        }
+        i += 4;
+    }
+    same_bytes(a, b, i, n)
 }
 
 // Whether two data agree in the 549 or 141 bits of their family.
@@ -37,7 +52,7 @@ pub fn same_bits(a: &[u8], b: &[u8], timing: bool) -> bool
     if a[last] / 8 != b[last] / 8 {
         return false;
     }
-    same_bytes(a, b, last)
+    same_first(a, b, last)
 }
 
 // The sum, held at 65535.

@@ -25,11 +25,11 @@ shared-slice-read-if1-2 c = omega (arith, bytes-of (c .before .before .before .b
 returns : tie.Need-returns
 returns c = sym (rw (ne-eqb _ _ (c .if1 .taken)) at (bits-by-bytes (familyIf (c .before .before .before .before .before .args .timing)) (c .before .before .before .before .before .args .a .now) (c .before .before .before .before .before .args .b .now) (length (c .before .before .before .before .before .args .a .now) - 1) (omega arith) (c .before .before .before .before .before .pre .0) (c .before .before .before .before .before .pre .1)))
 
-same-bytes-requires : tie.Need-same-bytes-requires
-same-bytes-requires c κs = omega arith
+same-first-requires : tie.Need-same-first-requires
+same-first-requires c κs = omega arith
 
 returns-2 : tie.Need-returns-2
-returns-2 c = c .same-bytes .ensures ∙ sym (rw (eq-eqb _ _ (c .before .if1 .left)) at (bits-by-bytes (familyIf (c .before .before .before .before .before .before .args .timing)) (c .before .before .before .before .before .before .args .a .now) (c .before .before .before .before .before .before .args .b .now) (length (c .before .before .before .before .before .before .args .a .now) - 1) (omega arith) (c .before .before .before .before .before .before .pre .0) (c .before .before .before .before .before .before .pre .1)))
+returns-2 c = c .same-first .ensures ∙ sym (rw (eq-eqb _ _ (c .before .if1 .left)) at (bits-by-bytes (familyIf (c .before .before .before .before .before .before .args .timing)) (c .before .before .before .before .before .before .args .a .now) (c .before .before .before .before .before .before .args .b .now) (length (c .before .before .before .before .before .before .args .a .now) - 1) (omega arith) (c .before .before .before .before .before .before .pre .0) (c .before .before .before .before .before .before .pre .1)))
 
 pub same-bits-spec : {M : Type 1} → statement M
 same-bits-spec =
@@ -39,5 +39,5 @@ same-bits-spec =
     shared-slice-read-if1
     shared-slice-read-if1-2
     returns
-    same-bytes-requires
+    same-first-requires
     returns-2)

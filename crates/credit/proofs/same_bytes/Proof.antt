@@ -1,5 +1,5 @@
--- `same_bytes` compares from the first byte on: what is left to compare from i on decides the whole, and a byte that differs ends it.
-use Prim.Native.Nat.{_≤_, _-_, zero-le}
+-- `same_bytes` compares byte by byte: what is left to compare from i on decides the whole, and a byte that differs ends it.
+use Prim.Native.Nat.{_≤_, _-_}
 use mathlib.Core.Path.{_≡_, refl}
 use native.Mathlib.Omega.{arith}
 use lib.ListN.{length, take, drop}
@@ -9,13 +9,13 @@ use Rattle.credit.proofs.same_bytes.Statement.{statement}
 use Rattle.credit.proofs.same_bytes.Tie as tie
 
 abbrev Inv-loop : tie.InvT-loop
-Inv-loop a b n i₀ i = (i ≤ n) × (sameList (take n a) (take n b) ≡ sameList (drop i (take n a)) (drop i (take n b)))
+Inv-loop a b from n i₀ i = (i ≤ n) × (sameList (drop from (take n a)) (drop from (take n b)) ≡ sameList (drop i (take n a)) (drop i (take n b)))
 
 abbrev μ-loop : tie.MeasureT-loop
-μ-loop a b n i₀ i = n - i
+μ-loop a b from n i₀ i = n - i
 
 loop-holds : tie.Need-loop-holds Inv-loop μ-loop
-loop-holds c = (zero-le, refl)
+loop-holds c = (c .pre .0, refl)
 
 shared-slice-read-if1 : tie.Need-shared-slice-read-if1 Inv-loop μ-loop
 shared-slice-read-if1 c = omega arith
@@ -24,9 +24,7 @@ shared-slice-read-if1-2 : tie.Need-shared-slice-read-if1-2 Inv-loop μ-loop
 shared-slice-read-if1-2 c = omega arith
 
 returns : tie.Need-returns Inv-loop μ-loop
-returns c =
-    bytes-differ (c .before .before .before .before .before .args .n) (c .before .before .before .before .loop .i) (c .before .before .before .before .before .args .a .now) (c .before .before .before .before .before .args .b .now) (c .before .before .before .before .before .pre .0) (c .before .before .before .before .before .pre .1) (c .before .before .before .before .loop .inv .1)
-    (c .before .before .before .loop-test .taken) (c .if1 .taken)
+returns c = bytes-differ (c .before .before .before .before .before .args .n) (c .before .before .before .before .loop .i) (c .before .before .before .before .before .args .a .now) (c .before .before .before .before .before .args .b .now) (c .before .before .before .before .before .pre .1 .0) (c .before .before .before .before .before .pre .1 .1) _ (c .before .before .before .before .loop .inv .1) (c .before .before .before .loop-test .taken) (c .if1 .taken)
 
 add-i : tie.Need-add-i Inv-loop μ-loop
 add-i c = omega arith
@@ -35,14 +33,10 @@ loop-less : tie.Need-loop-less Inv-loop μ-loop
 loop-less c = omega arith
 
 loop-again : tie.Need-loop-again Inv-loop μ-loop
-loop-again c = (
-  omega arith,
-  bytes-go (c .before .before .before .before .before .args .n) (c .before .before .before .before .loop .i) (c .before .before .before .before .before .args .a .now) (c .before .before .before .before .before .args .b .now) (c .before .before .before .before .before .pre .0) (c .before .before .before .before .before .pre .1) (c .before .before .before .before .loop .inv .1)
-      (c .before .before .before .loop-test .taken) (c .if1 .left),
-)
+loop-again c = (omega arith, bytes-go (c .before .before .before .before .before .args .n) (c .before .before .before .before .loop .i) (c .before .before .before .before .before .args .a .now) (c .before .before .before .before .before .args .b .now) (c .before .before .before .before .before .pre .1 .0) (c .before .before .before .before .before .pre .1 .1) _ (c .before .before .before .before .loop .inv .1) (c .before .before .before .loop-test .taken) (c .if1 .left))
 
 returns-2 : tie.Need-returns-2 Inv-loop μ-loop
-returns-2 c = bytes-done (c .before .before .args .n) (c .before .loop .i) (c .before .before .args .a .now) (c .before .before .args .b .now) (c .before .before .pre .0) (c .before .before .pre .1) (c .before .loop .inv .1) (c .loop-test .left)
+returns-2 c = bytes-done (c .before .before .args .n) (c .before .loop .i) (c .before .before .args .a .now) (c .before .before .args .b .now) (c .before .before .pre .1 .0) (c .before .before .pre .1 .1) _ (c .before .loop .inv .1) (c .loop-test .left)
 
 pub same-bytes-spec : {M : Type 1} → statement M
 same-bytes-spec =
