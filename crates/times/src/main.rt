@@ -22,15 +22,6 @@ fn number(n: u64) {
     io::print_decimal(STDOUT_FILENO, n);
 }
 
-// A number without its sign: the least i32 has a size too.
-fn size(n: i32) -> u64 {
-    let wide = n as i64;
-    if wide < 0 {
-        return (0 - wide) as u64;
-    }
-    wide as u64
-}
-
 fn time(gst: Gst) {
     let week = gst.wn.0;
     let time = gst.tow.0;
@@ -47,14 +38,14 @@ fn change(n: i32) {
     } else {
         text(b" + ");
     }
-    number(size(n));
+    number(signs::size(n));
 }
 
 fn signed(n: i32) {
     if n < 0 {
         text(b"-");
     }
-    number(size(n));
+    number(signs::size(n));
 }
 
 fn new_time(answer: NewTime) {

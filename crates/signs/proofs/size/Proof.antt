@@ -1,10 +1,9 @@
 -- `size`: in 64 bits the negation of any i32 fits, and what comes back fits a u64.
-use borrow.Author.Needs.{needs}
 use mir.Syntax.{w32}
 use mir.Facts.{toZ-ofZ, sfits-widen, fits-natAbs}
 use Rattle.gst.proofs.Integers.{negated-fits, negated-size, not-below, widened}
-use Rattle.times.proofs.size.Statement.{statement}
-use Rattle.times.proofs.size.Tie as tie
+use Rattle.signs.proofs.size.Statement.{statement}
+use Rattle.signs.proofs.size.Tie as tie
 
 cast-wide : tie.Need-cast-wide
 cast-wide c = simp (toZ-ofZ (c .fits .n)) (sfits-widen {w = w32} tt (c .fits .n))
@@ -22,7 +21,11 @@ cast-result c =
     simp (toZ-ofZ f, widened n f, toZ-ofZ (negated-fits n f), e .1) (e .0, fits-natAbs {w = w32} tt f)
 
 returns : tie.Need-returns
-returns c = search needs
+returns c =
+    let n = c .before .args .n in
+    let f = c .before .fits .n in
+    let e = negated-size n (simp (toZ-ofZ f, widened n f) at (c .if1 .taken)) in
+    simp (toZ-ofZ f, widened n f, toZ-ofZ (negated-fits n f), e .1)
 
 cast-result-2 : tie.Need-cast-result-2
 cast-result-2 c =
@@ -32,7 +35,9 @@ cast-result-2 c =
     (not-below n (simp (toZ-ofZ f, widened n f) at (c .if1 .left)), fits-natAbs {w = w32} tt f)
 
 returns-2 : tie.Need-returns-2
-returns-2 c = search needs
+returns-2 c =
+    let f = c .before .fits .n in
+    simp (toZ-ofZ f, widened (c .before .args .n) f)
 
 pub size-spec : {M : Type 1} → statement M
 size-spec = tie.close (tie.spec cast-wide sub-result cast-result returns cast-result-2 returns-2)

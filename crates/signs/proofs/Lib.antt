@@ -1,0 +1,2 @@
+pub mod MinusOne
+pub mod Determined

@@ -1,0 +1,25 @@
+// Signed numbers at the edge of the programs: a number without its sign, and the number that 32 bits are.
+ghost use mathlib.Core.Path.{_≡_};
+ghost use lib.IntN.{natAbs};
+ghost use Rattle.signs.specs.Signs.{twosComplement};
+
+// A number without its sign: the least i32 has a size too.
+pub fn size(n: i32) -> u64
+    ensures { λ r. ⌜ r ≡ natAbs n ⌝ }
+{
+    let wide = n as i64;
+    if wide < 0 {
+        return (0 - wide) as u64;
+    }
+    wide as u64
+}
+
+// The number that four bytes are in two's complement.
+pub fn of_bits(x: u32) -> i32
+    ensures { λ r. ⌜ r ≡ twosComplement x ⌝ }
+{
+    if x < 2147483648 {
+        return x as i32;
+    }
+    -1 - ((4294967295 - x) as i32)
+}
