@@ -1,3 +1,4 @@
 pub mod Answers
 pub mod Tight
 pub mod Joined
+pub mod Ran
