@@ -1,0 +1,430 @@
+// Each call of the store through each of its refusals, and through successes, on a small room: a line for each call.
+//
+// A line says the call and its numbers, then after the colon what came back: the number of document 01 and its values, for a part
+// that is handed out its length and its Adler-32, and last the Adler-32 of the whole room, which stays where the number is not 0. The
+// lines that the gate compares with were computed from document 01 by a model of their own, and not taken from this program.
+use gst::Gst;
+use gst::Tow;
+use gst::Wn;
+use libc::STDOUT_FILENO;
+use navmessage::Asked;
+use refusals::Reply;
+use svn::Svn;
+use tags::Tagged;
+
+// The room: a store of D 2 and N 2 is 424 bytes long, and six bytes behind it are not the store's.
+const ROOM: usize = 430;
+
+// A week and a subframe of it, and the two subframes after it.
+const WEEK: u16 = 1177;
+
+const T: u32 = 175740;
+
+const T30: u32 = 175770;
+
+const T60: u32 = 175800;
+
+fn text(letters: &[u8]) {
+    io::write_all(STDOUT_FILENO, letters);
+}
+
+fn number(n: u64) {
+    text(b" ");
+    io::print_decimal(STDOUT_FILENO, n);
+}
+
+fn byte(n: u8) {
+    number(n as u64);
+}
+
+fn sum(bytes: &[u8]) {
+    let sum = adler::adler32(bytes);
+    number(sum as u64);
+}
+
+fn part(bytes: &[u8]) {
+    text(b", part");
+    number(bytes.len() as u64);
+    sum(bytes);
+}
+
+fn end(room: &[u8]) {
+    text(b" #");
+    sum(room);
+    text(b"\n");
+}
+
+fn time(gst: Gst) {
+    let week = gst.wn.0;
+    let time = gst.tow.0;
+    number(week as u64);
+    number(time as u64);
+}
+
+fn at(week: u16, time: u32) -> Gst {
+    Gst {
+        wn: Wn(week),
+        tow: Tow(time),
+    }
+}
+
+fn reply(reply: Reply) {
+    match reply {
+        Reply::Done => number(0),
+        Reply::Refused(why) => byte(refusals::number(why)),
+    }
+}
+
+fn tagged(tagged: Tagged) {
+    match tagged {
+        Tagged::Taken(n) => {
+            number(0);
+            number(n as u64);
+        }
+        Tagged::Refused(why) => byte(refusals::number(why)),
+    }
+}
+
+fn asked(asked: Asked) {
+    match asked {
+        Asked::Found(reading) => {
+            let authbits = reading.authbits;
+            number(0);
+            number(authbits as u64);
+            time(reading.gst);
+        }
+        Asked::Refused(why) => byte(refusals::number(why)),
+    }
+}
+
+fn fresh(room: &mut [u8; ROOM], d: u8, n: u8) {
+    text(b"fresh");
+    byte(d);
+    byte(n);
+    text(b":");
+    reply(navmessage::fresh(room, d, n));
+    end(room);
+}
+
+fn feed(room: &mut [u8; ROOM], word: &[u8], svn: u8, gst: Gst, band: u8) {
+    text(b"feed");
+    byte(svn);
+    time(gst);
+    byte(band);
+    text(b" word");
+    number(word.len() as u64);
+    sum(word);
+    text(b":");
+    reply(navmessage::feed(room, word, Svn(svn), gst, band));
+    end(room);
+}
+
+// A word on E1B of one byte throughout, but for its first, which has the type in its upper six bits.
+fn word(room: &mut [u8; ROOM], first: u8, fill: u8, svn: u8, gst: Gst) {
+    let mut word = [fill; 16];
+    word[0] = first;
+    feed(room, &word, svn, gst, 0);
+}
+
+fn tag(
+    room: &mut [u8; ROOM],
+    svn: u8,
+    kind: u8,
+    cop: u8,
+    bits: u8,
+    status: u8,
+    mack: Gst,
+    given: &[u8],
+) {
+    text(b"tag");
+    byte(svn);
+    byte(kind);
+    byte(cop);
+    byte(bits);
+    byte(status);
+    time(mack);
+    text(b" given");
+    number(given.len() as u64);
+    sum(given);
+    text(b":");
+    tagged(navmessage::tag(room, Svn(svn), kind, cop, bits, status, mack, given, true));
+    end(room);
+}
+
+fn tag_no(room: &mut [u8; ROOM], svn: u8, kind: u8, cop: u8, status: u8, mack: Gst, given: &[u8]) {
+    text(b"tag with the verdict no");
+    byte(svn);
+    byte(kind);
+    byte(cop);
+    byte(status);
+    text(b":");
+    tagged(navmessage::tag(room, Svn(svn), kind, cop, 40, status, mack, given, false));
+    end(room);
+}
+
+fn candidate(room: &[u8; ROOM], svn: u8, kind: u8, cop: u8, mack: Gst) {
+    text(b"candidate");
+    byte(svn);
+    byte(kind);
+    byte(cop);
+    time(mack);
+    text(b":");
+    reply(navmessage::candidate(room, Svn(svn), kind, cop, mack));
+    part(navmessage::candidate_data(room, Svn(svn), kind, cop, mack));
+    end(room);
+}
+
+fn ask(room: &[u8; ROOM], svn: u8) {
+    text(b"ask for CED");
+    byte(svn);
+    text(b":");
+    asked(navmessage::get_ced_and_status(room, Svn(svn)));
+    part(navmessage::ced_and_status_data(room, Svn(svn)));
+    end(room);
+    text(b"ask for timing");
+    byte(svn);
+    text(b":");
+    asked(navmessage::get_timing_parameters(room, Svn(svn)));
+    part(navmessage::timing_parameters_data(room, Svn(svn)));
+    end(room);
+}
+
+fn reset(room: &mut [u8; ROOM]) {
+    text(b"reset:");
+    reply(navmessage::reset_authbits(room));
+    end(room);
+}
+
+// Every call but fresh, with nothing else to refuse.
+fn every(room: &mut [u8; ROOM]) {
+    let word = [4; 16];
+    let given = [255; 69];
+    reply(navmessage::feed(room, &word, Svn(5), at(WEEK, T), 0));
+    tagged(navmessage::tag(room, Svn(5), 0, 15, 40, 2, at(WEEK, T30), &given, true));
+    reply(navmessage::candidate(room, Svn(5), 0, 15, at(WEEK, T30)));
+    part(navmessage::candidate_data(room, Svn(5), 0, 15, at(WEEK, T30)));
+    asked(navmessage::get_ced_and_status(room, Svn(5)));
+    part(navmessage::ced_and_status_data(room, Svn(5)));
+    asked(navmessage::get_timing_parameters(room, Svn(5)));
+    part(navmessage::timing_parameters_data(room, Svn(5)));
+    reply(navmessage::reset_authbits(room));
+    end(room);
+}
+
+fn read(room: &[u8; ROOM], place: usize) -> u8 {
+    if place >= ROOM {
+        return 0;
+    }
+    room[place]
+}
+
+fn write(room: &mut [u8; ROOM], place: usize, value: u8) {
+    if place < ROOM {
+        room[place] = value;
+    }
+}
+
+// Every call on the room with one byte changed; then the byte is put back.
+fn spoilt(room: &mut [u8; ROOM], place: usize, value: u8) {
+    let old = read(room, place);
+    write(room, place, value);
+    text(b"byte");
+    number(place as u64);
+    text(b" is");
+    byte(value);
+    text(b":");
+    every(room);
+    write(room, place, old);
+}
+
+// A fresh store on a room that is a byte short of D 2 and N 2.
+fn fresh_short(d: u8, n: u8) {
+    let mut room = [7; 423];
+    text(b"fresh on 423 bytes");
+    byte(d);
+    byte(n);
+    text(b":");
+    reply(navmessage::fresh(&mut room, d, n));
+    end(&room);
+}
+
+// The calls that are lent the room to write, where a store of D 2 and N 2 lacks its last byte.
+fn every_short() {
+    let mut room = [0; 423];
+    room[0] = 2;
+    room[1] = 2;
+    let word = [4; 16];
+    let given = [255; 69];
+    text(b"on 423 bytes:");
+    reply(navmessage::feed(&mut room, &word, Svn(5), at(WEEK, T), 0));
+    tagged(navmessage::tag(&mut room, Svn(5), 0, 15, 40, 2, at(WEEK, T30), &given, true));
+    reply(navmessage::reset_authbits(&mut room));
+    end(&room);
+}
+
+// 1, 2 and 0.
+fn fresh_calls(room: &mut [u8; ROOM]) {
+    reset(room);
+    fresh(room, 0, 2);
+    fresh(room, 17, 2);
+    fresh(room, 2, 0);
+    fresh(room, 2, 37);
+    fresh(room, 2, 3);
+    fresh_short(2, 2);
+    fresh_short(2, 37);
+    fresh_short(1, 1);
+    every_short();
+    fresh(room, 1, 1);
+    fresh(room, 2, 2);
+}
+
+// 3, clause by clause: row 0 is marked and holds E05 in slot 1, row 1 is blank.
+fn no_store(room: &mut [u8; ROOM]) {
+    word(room, 4, 255, 5, at(WEEK, T));
+    spoilt(room, 0, 0);
+    spoilt(room, 0, 17);
+    spoilt(room, 0, 3);
+    spoilt(room, 1, 0);
+    spoilt(room, 1, 37);
+    spoilt(room, 2, 2);
+    spoilt(room, 3, 1);
+    spoilt(room, 7, 1);
+    spoilt(room, 8, 2);
+    spoilt(room, 14, 157);
+    spoilt(room, 12, 17);
+    spoilt(room, 15, 1);
+}
+
+// The rest of 3: 116 is the first byte of slot 1, 216 the mark of row 1, 224 its slot 0.
+fn no_records(room: &mut [u8; ROOM]) {
+    spoilt(room, 116, 37);
+    spoilt(room, 193, 37);
+    spoilt(room, 17, 1);
+    spoilt(room, 95, 1);
+    spoilt(room, 192, 4);
+    spoilt(room, 215, 1);
+    spoilt(room, 218, 1);
+    spoilt(room, 222, 30);
+    spoilt(room, 223, 1);
+    spoilt(room, 224, 1);
+    spoilt(room, 226, 1);
+    spoilt(room, 301, 1);
+    spoilt(room, 303, 1);
+    spoilt(room, 423, 2);
+    text(b"nothing changed:");
+    every(room);
+}
+
+// 4, 5, 8, 9, each before those that come later, and 0.
+fn feed_calls(room: &mut [u8; ROOM]) {
+    let word = [255; 17];
+    fresh(room, 2, 2);
+    feed(room, &word[0..15], 0, at(WEEK, 604800), 2);
+    feed(room, &word[0..15], 37, at(WEEK, 604800), 2);
+    feed(room, &word[0..15], 1, at(WEEK, 604800), 2);
+    feed(room, &word[0..15], 1, at(WEEK, 604799), 2);
+    feed(room, &word, 36, at(WEEK, T), 0);
+    feed(room, &word[0..0], 36, at(WEEK, T), 0);
+    feed(room, &word[0..16], 1, at(WEEK, T), 2);
+    feed(room, &word[0..16], 1, at(WEEK, T), 255);
+    feed(room, &word[0..16], 1, at(WEEK, T), 1);
+}
+
+// The words of an orbit and of the timing parameters, each of ones.
+fn all_words(room: &mut [u8; ROOM], svn: u8, gst: Gst) {
+    word(room, 7, 255, svn, gst);
+    word(room, 11, 255, svn, gst);
+    word(room, 15, 255, svn, gst);
+    word(room, 19, 255, svn, gst);
+    word(room, 23, 255, svn, gst);
+    word(room, 27, 255, svn, gst);
+    word(room, 43, 255, svn, gst);
+}
+
+// 4, 5, 6, 8, 9, 7, 16, 10, each before those that come later.
+fn tag_calls(room: &mut [u8; ROOM]) {
+    let given = [255; 69];
+    fresh(room, 2, 2);
+    all_words(room, 1, at(WEEK, 175767));
+    tag(room, 0, 1, 16, 21, 4, at(0, 604800), &given[0..0]);
+    tag(room, 37, 1, 16, 21, 4, at(0, 604800), &given[0..0]);
+    tag(room, 1, 1, 16, 21, 4, at(0, 604800), &given[0..0]);
+    tag(room, 1, 1, 16, 21, 4, at(0, 29), &given[0..0]);
+    tag(room, 1, 1, 16, 40, 4, at(0, 0), &given[0..0]);
+    tag(room, 1, 1, 0, 21, 4, at(0, 0), &given[0..0]);
+    tag(room, 1, 1, 0, 40, 2, at(0, 0), &given[0..0]);
+    tag(room, 1, 0, 0, 40, 4, at(0, 0), &given[0..0]);
+    tag(room, 1, 0, 0, 40, 0, at(0, 0), &given[0..0]);
+    tag(room, 1, 0, 0, 40, 0, at(WEEK, T60), &given[0..0]);
+    tag(room, 1, 0, 1, 40, 0, at(WEEK, T60), &given[0..0]);
+    tag(room, 2, 0, 15, 40, 0, at(WEEK, T30), &given[0..0]);
+}
+
+// 11, 17, 18 and 0: bits past the 549 and the 141 of what is given do not matter.
+fn tags_taken(room: &mut [u8; ROOM]) {
+    let mut given = [255; 69];
+    tag(room, 1, 0, 1, 40, 0, at(WEEK, T30), &given[0..68]);
+    tag(room, 1, 4, 1, 40, 0, at(WEEK, T30), &given);
+    tag_no(room, 1, 0, 1, 3, at(WEEK, T30), &given);
+    tag(room, 1, 0, 1, 40, 0, at(WEEK, T30), &given);
+    tag(room, 1, 0, 1, 40, 3, at(WEEK, T30), &given);
+    tag(room, 1, 0, 1, 20, 1, at(WEEK, T30), &given);
+    ask(room, 1);
+    tag(room, 1, 12, 15, 24, 2, at(WEEK, T30), &given);
+    tag(room, 1, 4, 1, 40, 2, at(WEEK, T30), &given[0..18]);
+    given[68] = 248;
+    tag(room, 1, 0, 1, 28, 2, at(WEEK, T30), &given);
+    given[68] = 240;
+    tag_no(room, 1, 0, 1, 3, at(WEEK, T30), &given);
+    word(room, 3, 255, 1, at(WEEK, T30));
+    tag(room, 1, 4, 1, 32, 2, at(WEEK, T60), &given[0..18]);
+    tag(room, 1, 4, 2, 32, 2, at(WEEK, T60), &given[0..18]);
+}
+
+// 4, 5, 6, 8, 9, 7, 16, 10 and 0.
+fn candidate_calls(room: &mut [u8; ROOM]) {
+    candidate(room, 0, 1, 16, at(0, 604800));
+    candidate(room, 37, 1, 16, at(0, 604800));
+    candidate(room, 1, 1, 16, at(0, 604800));
+    candidate(room, 1, 1, 16, at(0, 29));
+    candidate(room, 1, 1, 16, at(0, 0));
+    candidate(room, 1, 1, 0, at(0, 0));
+    candidate(room, 1, 0, 0, at(0, 0));
+    candidate(room, 1, 0, 0, at(WEEK, T60));
+    candidate(room, 1, 0, 1, at(WEEK, T60));
+    candidate(room, 1, 0, 2, at(WEEK, T60));
+    candidate(room, 1, 12, 1, at(WEEK, T30));
+    candidate(room, 1, 4, 1, at(WEEK, T30));
+}
+
+// 4, 12, 7 and 0: for 7 the ring comes back to the first subframe of all, with words that are two subframes old.
+fn ask_calls(room: &mut [u8; ROOM]) {
+    let given = [255; 69];
+    ask(room, 0);
+    ask(room, 37);
+    ask(room, 2);
+    ask(room, 1);
+    reset(room);
+    ask(room, 1);
+    fresh(room, 2, 2);
+    all_words(room, 36, at(0, 0));
+    tag(room, 36, 0, 1, 40, 2, at(0, 30), &given);
+    tag(room, 36, 4, 1, 40, 2, at(0, 30), &given[0..18]);
+    ask(room, 36);
+    word(room, 3, 255, 36, at(0, 30));
+    ask(room, 36);
+    word(room, 3, 255, 36, at(0, 0));
+    ask(room, 36);
+}
+
+fn main() {
+    let mut room = [7; ROOM];
+    fresh_calls(&mut room);
+    no_store(&mut room);
+    no_records(&mut room);
+    feed_calls(&mut room);
+    tag_calls(&mut room);
+    tags_taken(&mut room);
+    candidate_calls(&mut room);
+    ask_calls(&mut room);
+}
