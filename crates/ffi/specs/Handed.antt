@@ -1,0 +1,24 @@
+-- What an export hands back for the paper's answer: its number and its values, each 0 beside a refusal, and where the part lies.
+use Prim.Native.Nat.{ℕ}
+use lib.ListN.{getD}
+use Rattle.paper.specs.Number.{Answer, number, values}
+use Rattle.ffi.specs.declared.Taken.{Taken}
+use Rattle.ffi.specs.declared.Shown.{Shown}
+use Rattle.ffi.specs.declared.Told.{Told}
+
+abbrev pub takenOf : Answer → Taken
+takenOf a = record { number = number a; records = getD (values a) 0 0 }
+
+abbrev pub shownOf : Answer → ℕ → ℕ → Shown
+shownOf a offset bytes = record { number = number a; offset = offset; bytes = bytes }
+
+abbrev pub toldOf : Answer → ℕ → ℕ → Told
+toldOf a offset bytes =
+    record {
+      number = number a;
+      authbits = getD (values a) 0 0;
+      week = getD (values a) 1 0;
+      time = getD (values a) 2 0;
+      offset = offset;
+      bytes = bytes;
+    }

@@ -1,0 +1,260 @@
+// The store's calls for C and Rust, under plain names. Room, word and data come as a pointer and a length, numbers as numbers; the
+// paper's number and its values go back by value, and a part of the room as its offset and its bytes. No call asks anything of its caller.
+ghost use mathlib.Core.Path.{_≡_};
+ghost use mathlib.Core.Bool.{cond};
+ghost use lib.ListN.{length};
+ghost use Rattle.paper.specs.Number.{refused, number};
+ghost use Rattle.paper.specs.Parts.{part};
+ghost use Rattle.paper.specs.Record.{CED, Timing as TIMING, familyIf, dataAt, dataBytes};
+ghost use Rattle.paper.specs.Room.{roomSize};
+ghost use Rattle.paper.specs.Store.{sizesAllowed};
+ghost use Rattle.paper.specs.Answer.{freshAnswer, freshRoom, feedAnswer, feedRoom, tagAnswer, tagRoom, candidateAnswer, candidateData, askAnswer, askData, resetAnswer, resetRoom};
+ghost use Rattle.refusals.specs.Reply.{answerOf};
+ghost use Rattle.tags.specs.Place.{taggedAnswer};
+ghost use Rattle.ffi.specs.Handed.{takenOf, shownOf, toldOf};
+ghost use Rattle.ffi.specs.Offset.{candidateOffset, askOffset};
+use ask::Asked;
+use gst::Gst;
+use gst::Tow;
+use gst::Wn;
+use records::Ced;
+use records::Timing;
+use refusals::Reply;
+use svn::Svn;
+use tags::Place;
+use tags::Tagged;
+
+// What a tag came to: its number, and how many records took it.
+#[repr(C)]
+pub struct Taken {
+    pub number: u8,
+    pub records: u32,
+}
+
+// The candidate of a tag: its number, and where its data lies in the room.
+#[repr(C)]
+pub struct Shown {
+    pub number: u8,
+    pub offset: usize,
+    pub bytes: usize,
+}
+
+// What asking tells: its number, the count, the time, and where the data lies in the room.
+#[repr(C)]
+pub struct Told {
+    pub number: u8,
+    pub authbits: u16,
+    pub week: u16,
+    pub time: u32,
+    pub offset: usize,
+    pub bytes: usize,
+}
+
+fn reply_number(reply: Reply) -> u8
+    ensures { λ r. ⌜ r ≡ number (answerOf reply) ⌝ }
+{
+    match reply {
+        Reply::Done => 0,
+        Reply::Refused(why) => refusals::number(why),
+    }
+}
+
+fn of_tag(tagged: Tagged) -> Taken
+    ensures { λ r. ⌜ r ≡ takenOf (taggedAnswer tagged) ⌝ }
+{
+    match tagged {
+        Tagged::Taken(records) => Taken { number: 0, records },
+        Tagged::Refused(why) => Taken {
+            number: refusals::number(why),
+            records: 0,
+        },
+    }
+}
+
+// Where the data of a record starts in it.
+fn data_at(timing: bool) -> usize
+    ensures { λ r. ⌜ r ≡ dataAt (familyIf timing) ⌝ }
+{
+    if timing {
+        Timing::SIZE - Timing::BYTES
+    } else {
+        Ced::SIZE - Ced::BYTES
+    }
+}
+
+fn data_bytes(timing: bool) -> usize
+    ensures { λ r. ⌜ r ≡ dataBytes (familyIf timing) ⌝ }
+{
+    if timing { Timing::BYTES } else { Ced::BYTES }
+}
+
+// The bytes that a store of d rows and n slots takes; 0 for sizes that are not allowed.
+#[no_mangle]
+pub extern "C" fn dawnstook_room_size(d: u8, n: u8) -> usize
+    ensures { λ r. ⌜ r ≡ cond (sizesAllowed d n) (roomSize d n) 0 ⌝ }
+{
+    if !store::sizes_allowed(d, n) {
+        return 0;
+    }
+    rows::row_start(rows::wide(n), rows::wide(d))
+}
+
+// A fresh store of d rows and n slots at the start of the room.
+#[no_mangle]
+pub extern "C" fn dawnstook_fresh(room: &mut [u8], d: u8, n: u8) -> u8
+    ensures { λ r. ⌜ (r ≡ number (freshAnswer d n (now (room .entry)))) × (now (room .exit) ≡ freshRoom d n (now (room .entry))) ⌝ }
+{
+    reply_number(navmessage::fresh(room, d, n))
+}
+
+// A word of a satellite, received at a time on a band (0 E1B, 1 E5B).
+#[no_mangle]
+pub extern "C" fn dawnstook_feed(
+    room: &mut [u8],
+    word: &[u8],
+    sat: u8,
+    week: u16,
+    time: u32,
+    band: u8,
+) -> u8
+    ensures { λ r. ⌜ (r ≡ number (feedAnswer (now (word .entry)) sat time band (now (room .entry)))) × (now (room .exit) ≡ feedRoom (now (word .entry)) sat week time band (now (room .entry))) ⌝ }
+{
+    let gst = Gst {
+        wn: Wn(week),
+        tow: Tow(time),
+    };
+    reply_number(navmessage::feed(room, word, Svn(sat), gst, band))
+}
+
+// A tag that was checked over the given data, with its verdict.
+#[no_mangle]
+pub extern "C" fn dawnstook_tag(
+    room: &mut [u8],
+    sat: u8,
+    kind: u8,
+    cop: u8,
+    bits: u8,
+    status: u8,
+    week: u16,
+    time: u32,
+    given: &[u8],
+    verdict: bool,
+) -> Taken
+    ensures { λ r. ⌜ r ≡ takenOf (tagAnswer sat kind cop bits status week time (now (given .entry)) verdict (now (room .entry))) ⌝ }
+    ensures { λ _. ⌜ now (room .exit) ≡ tagRoom sat kind cop bits status week time (now (given .entry)) verdict (now (room .entry)) ⌝ }
+{
+    let mack = Gst {
+        wn: Wn(week),
+        tow: Tow(time),
+    };
+    of_tag(navmessage::tag(
+        room,
+        Svn(sat),
+        kind,
+        cop,
+        bits,
+        status,
+        mack,
+        given,
+        verdict,
+    ))
+}
+
+// The candidate of a tag of this kind and COP, as a part of the room.
+#[no_mangle]
+pub extern "C" fn dawnstook_candidate(
+    room: &[u8],
+    sat: u8,
+    kind: u8,
+    cop: u8,
+    week: u16,
+    time: u32,
+) -> Shown
+    ensures { λ r. ⌜ r ≡ shownOf (candidateAnswer sat kind cop week time (now (room .entry))) (candidateOffset sat kind cop week time (now (room .entry))) (length (candidateData sat kind cop week time (now (room .entry)))) ⌝ }
+    ensures { λ r. ⌜ part (r .offset) (r .bytes) (now (room .entry)) ≡ candidateData sat kind cop week time (now (room .entry)) ⌝ }
+{
+    let mack = Gst {
+        wn: Wn(week),
+        tow: Tow(time),
+    };
+    let allowed = entry::cop_allowed(cop);
+    let known = entry::kind_known(kind);
+    match tags::candidate_place(room, Svn(sat), kind, cop, mack, allowed, known) {
+        Place::At(at) => Shown {
+            number: 0,
+            offset: at + data_at(kind == tags::TIMING),
+            bytes: data_bytes(kind == tags::TIMING),
+        },
+        Place::Refused(why) => Shown {
+            number: refusals::number(why),
+            offset: 0,
+            bytes: 0,
+        },
+    }
+}
+
+// A refusal: "any number beside them is 0", and the part is empty.
+fn not_told(why: u8) -> Told
+    ensures { λ r. ⌜ r ≡ toldOf (refused why) 0 0 ⌝ }
+{
+    Told {
+        number: why,
+        authbits: 0,
+        week: 0,
+        time: 0,
+        offset: 0,
+        bytes: 0,
+    }
+}
+
+// "Asking 3, 4, 12, 7"
+fn tell(room: &[u8], timing: bool, sat: u8) -> Told
+    ensures { λ r. ⌜ r ≡ toldOf (askAnswer (familyIf timing) sat (now (room .entry))) (askOffset (familyIf timing) sat (now (room .entry))) (length (askData (familyIf timing) sat (now (room .entry)))) ⌝ }
+    ensures { λ r. ⌜ part (r .offset) (r .bytes) (now (room .entry)) ≡ askData (familyIf timing) sat (now (room .entry)) ⌝ }
+{
+    if !store::is_store(room) {
+        return not_told(3);
+    }
+    let svn = Svn(sat);
+    if !svn.is_satellite() {
+        return not_told(4);
+    }
+    match ask::ask(room, timing, sat) {
+        Asked::Told(at, authbits, gst) => Told {
+            number: 0,
+            authbits,
+            week: gst.wn.0,
+            time: gst.tow.0,
+            offset: at + data_at(timing),
+            bytes: data_bytes(timing),
+        },
+        Asked::NotEnough => not_told(12),
+        Asked::OutOfTime => not_told(7),
+    }
+}
+
+// Authenticated ephemeris, clock and status of a satellite.
+#[no_mangle]
+pub extern "C" fn dawnstook_get_ced_and_status(room: &[u8], sat: u8) -> Told
+    ensures { λ r. ⌜ r ≡ toldOf (askAnswer CED sat (now (room .entry))) (askOffset CED sat (now (room .entry))) (length (askData CED sat (now (room .entry)))) ⌝ }
+    ensures { λ r. ⌜ part (r .offset) (r .bytes) (now (room .entry)) ≡ askData CED sat (now (room .entry)) ⌝ }
+{
+    tell(room, false, sat)
+}
+
+// Authenticated timing parameters of a satellite.
+#[no_mangle]
+pub extern "C" fn dawnstook_get_timing_parameters(room: &[u8], sat: u8) -> Told
+    ensures { λ r. ⌜ r ≡ toldOf (askAnswer TIMING sat (now (room .entry))) (askOffset TIMING sat (now (room .entry))) (length (askData TIMING sat (now (room .entry)))) ⌝ }
+    ensures { λ r. ⌜ part (r .offset) (r .bytes) (now (room .entry)) ≡ askData TIMING sat (now (room .entry)) ⌝ }
+{
+    tell(room, true, sat)
+}
+
+// All counts put to 0.
+#[no_mangle]
+pub extern "C" fn dawnstook_reset_authbits(room: &mut [u8]) -> u8
+    ensures { λ r. ⌜ (r ≡ number (resetAnswer (now (room .entry)))) × (now (room .exit) ≡ resetRoom (now (room .entry))) ⌝ }
+{
+    reply_number(navmessage::reset_authbits(room))
+}
