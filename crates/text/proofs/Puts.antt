@@ -84,3 +84,10 @@ put-none s at h = record { bytes = sym (putText-none s at); place = omega arith;
 -- a text put leaves one outcome
 pub put-one : {s t s' s'' : List ℕ} {at r r' : ℕ} → Put s at t s' r → Put s at t s'' r' → (s' ≡ s'') × (r ≡ r')
 put-one p q = (p .bytes ∙ sym (q .bytes), p .place ∙ sym (q .place))
+
+-- the bytes up to the place behind the text
+pub take-put : {s t s' : List ℕ} {at r : ℕ} → Put s at t s' r → take r s' ≡ take at s ++ t
+unfolding putText
+take-put {s} {t} {s'} {at} {r} p =
+    rw (p .place, p .bytes, ← append-assoc (take at s) t (drop (at + length t) s))
+    (take-at (take at s ++ t) (drop (at + length t) s) (at + length t) (simp (length-append, length-take) (omega (arith, p .fits))))

@@ -1,0 +1,3 @@
+-- The laws of `benchlines`.
+pub mod Parts
+pub mod Determined

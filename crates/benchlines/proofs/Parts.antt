@@ -1,0 +1,59 @@
+-- The part of the room that a record's call hands out: it is short, and still there after the call. Assumes nothing.
+use native.Mathlib.Omega.{arith}
+use mathlib.Core.Path.{_≡_, refl}
+use mathlib.Core.Bool.{Bool, true, false, cond}
+use mathlib.Core.List.{List, []}
+use Prim.Native.Nat.{ℕ, _≤_}
+use lib.ListN.{length, getD, length-take}
+use lib.Dec.{eqb}
+use Rattle.paper.specs.Record.{Family, CED, Timing as TIMING, dataBytes, dataOf}
+use Rattle.paper.specs.Answer.{partFor, candidateNumber, candidateData, askNumber, askData}
+use Rattle.paper.specs.Tag.{familyOf, candidateRecord}
+use Rattle.paper.specs.Ask.{answeringRecord}
+use Rattle.paper.specs.Call.{partTo, roomAfter, run}
+use Rattle.lines.specs.declared.Kind.{Kind}
+use Rattle.lines.specs.declared.Kind.the-variants.{Word, Tag, Reset, Ced, Timing, Fresh, Unknown}
+use Rattle.benchlines.specs.Records.{wordCall, tagCallOn, recordPart, recordRoom}
+
+-- the data of a record, if the number is 0
+data-short : (k : ℕ) (f : Family) (rec : List ℕ) → length (partFor k (dataOf f rec)) ≤ 69
+data-short k f rec = go (eqb k 0)
+  where
+    bytes : (f : Family) → dataBytes f ≤ 69
+    bytes CED = omega arith
+    bytes TIMING = omega arith
+
+    go : (b : Bool) → length (cond b (dataOf f rec) []) ≤ 69
+    go true = simp length-take (omega (arith, bytes f))
+    go false = omega arith
+
+-- a candidate's data
+pub candidate-short : (sat kind cop w t : ℕ) (room : List ℕ) → length (candidateData sat kind cop w t room) ≤ 69
+unfolding candidateData
+candidate-short sat kind cop w t room =
+    data-short (candidateNumber sat kind cop w t room) (familyOf kind) (candidateRecord (familyOf kind) sat w t room)
+
+ask-short : (f : Family) (sat : ℕ) (room : List ℕ) → length (askData f sat room) ≤ 69
+unfolding askData
+ask-short f sat room = data-short (askNumber f sat room) f (answeringRecord f sat room)
+
+pub part-short : (kind : Kind) (body room : List ℕ) → length (recordPart kind body room) ≤ 69
+unfolding wordCall tagCallOn partTo
+part-short Word body room = omega arith
+part-short Tag body room = omega arith
+part-short Reset body room = omega arith
+part-short Ced body room = ask-short CED (getD body 0 0) room
+part-short Timing body room = ask-short TIMING (getD body 0 0) room
+part-short Fresh body room = omega arith
+part-short Unknown body room = omega arith
+
+-- a call that hands out a part leaves the room as it is
+pub part-after : (kind : Kind) (body room : List ℕ) → recordPart kind body (recordRoom kind body room) ≡ recordPart kind body room
+unfolding wordCall tagCallOn partTo roomAfter run
+part-after Word body room = refl
+part-after Tag body room = refl
+part-after Reset body room = refl
+part-after Ced body room = refl
+part-after Timing body room = refl
+part-after Fresh body room = refl
+part-after Unknown body room = refl

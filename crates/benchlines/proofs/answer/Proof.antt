@@ -1,0 +1,47 @@
+-- `answer`: the answer's line, with the part that is still there after the call.
+use native.Mathlib.Omega.{arith}
+use mathlib.Core.Path.{_≡_, refl, ap, _∙_}
+use Rattle.benchlines.specs.Records.{recordPart, recordLine}
+use Rattle.benchlines.proofs.Parts.{part-short, part-after}
+use borrow.Author.Needs.{needs}
+use Rattle.benchlines.proofs.answer.Statement.{statement}
+use Rattle.benchlines.proofs.answer.Tie as tie
+
+told-requires : tie.Need-told-requires
+told-requires c κs = search needs
+
+satellite-requires : tie.Need-satellite-requires
+satellite-requires c κs = search needs
+
+part-requires : tie.Need-part-requires
+part-requires c κs = search needs
+
+put-line-requires : tie.Need-put-line-requires
+put-line-requires c κs = (omega arith, rw (c .part .ensures) (part-short (c .before .before .before .before .before .before .before .before .before .before .before .args .kind) _ _))
+
+same-length : tie.Need-same-length
+same-length c = search needs
+
+same-length-2 : tie.Need-same-length-2
+same-length-2 c = search needs
+
+returns : tie.Need-returns
+unfolding recordLine
+returns c =
+    let told = c .before .before .before .before .before .before .before .before .before .told .ensures in
+    let a = c .before .before .before .before .before .before .before .before .before .before .before .before .before .before .args in
+    let part = c .before .before .before .part .ensures ∙ ap (recordPart (a .kind) (a .body .now)) (told .1) ∙ part-after (a .kind) (a .body .now) (a .room .now) in
+    let line = simp (c .before .before .before .before .before .satellite .ensures, told .0, part) at (c .before .before .put-line .ensures) in
+    (told .1, (line .0, line .1))
+
+pub answer-spec : {M : Type 1} → statement M
+answer-spec =
+    tie.close
+    (tie.spec
+    told-requires
+    satellite-requires
+    part-requires
+    put-line-requires
+    same-length
+    same-length-2
+    returns)

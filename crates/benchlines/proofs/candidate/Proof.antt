@@ -1,0 +1,55 @@
+-- `candidate`: the part is short enough, and stands at the start of `given`.
+use native.Mathlib.Omega.{arith}
+use mathlib.Core.Path.{_∙_}
+use lib.ListN.{getD}
+use Rattle.text.proofs.Puts.{take-put}
+use Rattle.benchlines.specs.Records.{candidateOn}
+use Rattle.benchlines.proofs.Parts.{candidate-short}
+use borrow.Author.Needs.{needs}
+use Rattle.benchlines.proofs.candidate.Statement.{statement}
+use Rattle.benchlines.proofs.candidate.Tie as tie
+
+time-requires : tie.Need-time-requires
+time-requires c κs = search needs
+
+shared-slice-read-t9 : tie.Need-shared-slice-read-t9
+shared-slice-read-t9 c = search needs
+
+shared-slice-read-candidate-data : tie.Need-shared-slice-read-candidate-data
+shared-slice-read-candidate-data c = search needs
+
+shared-slice-read-candidate-data-2 : tie.Need-shared-slice-read-candidate-data-2
+shared-slice-read-candidate-data-2 c = search needs
+
+candidate-data-requires : tie.Need-candidate-data-requires
+candidate-data-requires c κs = search needs
+
+put-bytes-requires : tie.Need-put-bytes-requires
+put-bytes-requires c κs =
+    let body = c .before .before .before .before .before .before .before .before .before .args .body .now in
+    let mack = c .before .before .before .before .before .time .result in
+    let short = candidate-short (getD body 0 0) (getD body 1 0) (getD body 2 0) (mack .wn .0) (mack .tow .0) (c .before .before .before .before .before .before .before .before .before .args .room .now) in
+    rw (c .candidate-data .ensures) (omega (arith, short))
+
+same-length : tie.Need-same-length
+same-length c = search needs
+
+returns : tie.Need-returns
+unfolding candidateOn
+returns c =
+    let when = c .before .before .before .before .before .before .before .before .time .ensures in
+    let shown = simp (when .0, when .1) at (c .before .before .before .candidate-data .ensures) in
+    (take-put (c .before .before .put-bytes .ensures) ∙ shown, omega arith)
+
+pub candidate-spec : {M : Type 1} → statement M
+candidate-spec =
+    tie.close
+    (tie.spec
+    time-requires
+    shared-slice-read-t9
+    shared-slice-read-candidate-data
+    shared-slice-read-candidate-data-2
+    candidate-data-requires
+    put-bytes-requires
+    same-length
+    returns)

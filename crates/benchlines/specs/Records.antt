@@ -1,0 +1,62 @@
+-- "Bench program": the call that a record makes, its answer, the room after it and its line.
+use Prim.Native.Nat.{ℕ}
+use mathlib.Core.Bool.{not}
+use mathlib.Core.List.{List, [], _∷_}
+use lib.ListN.{getD}
+use lib.Dec.{eqb}
+use Rattle.paper.specs.Number.{Answer, refused}
+use Rattle.paper.specs.Parts.{part}
+use Rattle.paper.specs.Big.{be16, be32}
+use Rattle.paper.specs.Record.{CED, Timing as TIMING}
+use Rattle.paper.specs.Answer.{candidateData}
+use Rattle.paper.specs.Call.{Call, freshCall, feedCall, tagCall, askCall, resetCall, answerTo, partTo, run}
+use Rattle.lines.specs.declared.Kind.{Kind}
+use Rattle.lines.specs.declared.Kind.the-variants.{Word, Tag, Reset, Ced, Timing, Fresh, Unknown}
+use Rattle.lines.specs.Lines.{lineOf}
+
+-- "1 word: satellite, band, week (2), time (4), 16 bytes"
+unfoldable pub wordCall : List ℕ → Call
+wordCall body = feedCall (part 8 16 body) (getD body 0 0) (be16 body 2) (be32 body 4) (getD body 1 0)
+
+-- "the candidate's data", of a tag's satellite, kind, COP, week and time
+unfoldable pub candidateOn : List ℕ → List ℕ → List ℕ
+candidateOn body room = candidateData (getD body 0 0) (getD body 1 0) (getD body 2 0) (be16 body 6) (be32 body 8) room
+
+-- "2 tag: satellite, kind, COP, length, status, verdict (0 is no), week (2), time (4); the candidate's data is used"
+unfoldable pub tagCallOn : List ℕ → List ℕ → Call
+tagCallOn body room =
+    tagCall (getD body 0 0) (getD body 1 0) (getD body 2 0) (getD body 3 0) (getD body 4 0) (be16 body 6) (be32 body 8)
+    (candidateOn body room)
+    (not (eqb (getD body 5 0) 0))
+
+-- the call of a record on a room; an unknown kind makes none
+abbrev pub callsOf : Kind → List ℕ → List ℕ → List Call
+callsOf Word body room = wordCall body ∷ []
+callsOf Tag body room = tagCallOn body room ∷ []
+callsOf Reset body room = resetCall ∷ []
+callsOf Ced body room = askCall CED (getD body 0 0) ∷ []
+callsOf Timing body room = askCall TIMING (getD body 0 0) ∷ []
+callsOf Fresh body room = freshCall (getD body 0 0) (getD body 1 0) ∷ []
+callsOf Unknown body room = []
+
+-- "13 .. bench only: unknown kind byte"
+abbrev pub answerOn : List Call → List ℕ → Answer
+answerOn [] room = refused 13
+answerOn (c ∷ l) room = answerTo c room
+
+abbrev pub partOn : List Call → List ℕ → List ℕ
+partOn [] room = []
+partOn (c ∷ l) room = partTo c room
+
+abbrev pub recordAnswer : Kind → List ℕ → List ℕ → Answer
+recordAnswer kind body room = answerOn (callsOf kind body room) room
+
+abbrev pub recordPart : Kind → List ℕ → List ℕ → List ℕ
+recordPart kind body room = partOn (callsOf kind body room) room
+
+abbrev pub recordRoom : Kind → List ℕ → List ℕ → List ℕ
+recordRoom kind body room = run room (callsOf kind body room)
+
+-- the satellite is the first byte of a body that has one
+unfoldable pub recordLine : Kind → List ℕ → List ℕ → List ℕ
+recordLine kind body room = lineOf kind (getD body 0 0) (recordAnswer kind body room) (recordPart kind body room)

@@ -1,0 +1,175 @@
+// One whole record of the bench program answered on a room (document 01, "Bench program").
+use gst::Gst;
+use gst::Tow;
+use gst::Wn;
+use lines::Kind;
+use lines::Told;
+use navmessage::Asked;
+use refusals::Reply;
+use svn::Svn;
+use tags::Tagged;
+ghost use mathlib.Core.Path.{_≡_};
+ghost use Prim.Native.Nat.{_+_, _≤_};
+ghost use lib.ListN.{length, getD, take};
+ghost use Rattle.paper.specs.Big.{be16, be32};
+ghost use Rattle.paper.specs.Call.{freshCall, resetCall, answerTo, roomAfter};
+ghost use Rattle.refusals.specs.Reply.{answerOf};
+ghost use Rattle.tags.specs.Place.{taggedAnswer};
+ghost use Rattle.navmessage.specs.Asked.{askedAnswer};
+ghost use Rattle.lines.specs.Lines.{toldAnswer};
+ghost use Rattle.benchlines.specs.Records.{wordCall, candidateOn, tagCallOn, recordAnswer, recordPart, recordRoom, recordLine};
+ghost use Rattle.lines.specs.Kinds.{bodyLength};
+ghost use Rattle.text.specs.Text.{Put};
+
+// bench only: unknown kind byte
+const UNKNOWN_KIND: u8 = 13;
+
+// The week and the time from a place of a body.
+fn time(body: &[u8], at: usize) -> Gst
+    requires { ⌜ at + 6 ≤ length (now body) ⌝ }
+    ensures { λ r. ⌜ (r .wn .0 ≡ be16 (now (body .entry)) at) × (r .tow .0 ≡ be32 (now (body .entry)) (at + 2)) ⌝ }
+{
+    let wn = Wn(numbers::read16(body, at));
+    let tow = Tow(numbers::read32(body, at + 2));
+    Gst { wn, tow }
+}
+
+fn replied(reply: Reply) -> Told
+    ensures { λ r. ⌜ toldAnswer r ≡ answerOf reply ⌝ }
+{
+    match reply {
+        Reply::Done => Told::Done,
+        Reply::Refused(why) => Told::Refused(refusals::number(why)),
+    }
+}
+
+fn tagged(answer: Tagged) -> Told
+    ensures { λ r. ⌜ toldAnswer r ≡ taggedAnswer answer ⌝ }
+{
+    match answer {
+        Tagged::Taken(records) => Told::Total(records),
+        Tagged::Refused(why) => Told::Refused(refusals::number(why)),
+    }
+}
+
+fn asked(answer: Asked) -> Told
+    ensures { λ r. ⌜ toldAnswer r ≡ askedAnswer answer ⌝ }
+{
+    match answer {
+        Asked::Found(reading) => {
+            let gst = reading.gst;
+            Told::Reading(reading.authbits, gst)
+        }
+        Asked::Refused(why) => Told::Refused(refusals::number(why)),
+    }
+}
+
+// Satellite, band, week (2), time (4), 16 bytes.
+fn word(room: &mut [u8], body: &[u8]) -> Told
+    requires { ⌜ length (now body) ≡ 24 ⌝ }
+    ensures { λ r. ⌜ (toldAnswer r ≡ answerTo (wordCall (now (body .entry))) (now (room .entry))) × (now (room .exit) ≡ roomAfter (wordCall (now (body .entry))) (now (room .entry))) ⌝ }
+{
+    let gst = time(body, 2);
+    replied(navmessage::feed(room, &body[8..24], Svn(body[0]), gst, body[1]))
+}
+
+// The data of a tag's candidate, copied: a tag is lent the room it lies in. How many bytes there are comes back.
+fn candidate(room: &[u8], body: &[u8], given: &mut [u8]) -> usize
+    requires { ⌜ (length (now body) ≡ 12) × (length (now given) ≡ 69) ⌝ }
+    ensures { λ r. ⌜ (take r (now (given .exit)) ≡ candidateOn (now (body .entry)) (now (room .entry))) × (r ≤ length (now (given .exit))) ⌝ }
+{
+    let gst = time(body, 6);
+    text::put_bytes(
+        given,
+        0,
+        navmessage::candidate_data(room, Svn(body[0]), body[1], body[2], gst),
+    )
+}
+
+// Satellite, kind, COP, length, status, verdict (0 is no), week (2), time (4).
+fn tag(room: &mut [u8], body: &[u8]) -> Told
+    requires { ⌜ length (now body) ≡ 12 ⌝ }
+    ensures { λ r. ⌜ (toldAnswer r ≡ answerTo (tagCallOn (now (body .entry)) (now (room .entry))) (now (room .entry))) × (now (room .exit) ≡ roomAfter (tagCallOn (now (body .entry)) (now (room .entry))) (now (room .entry))) ⌝ }
+{
+    let mut given = [0u8; 69];
+    let n = candidate(room, body, &mut given);
+    let gst = time(body, 6);
+    let verdict = body[5] != 0;
+    tagged(navmessage::tag(
+        room,
+        Svn(body[0]),
+        body[1],
+        body[2],
+        body[3],
+        body[4],
+        gst,
+        &given[..n],
+        verdict,
+    ))
+}
+
+fn reset(room: &mut [u8]) -> Told
+    ensures { λ r. ⌜ (toldAnswer r ≡ answerTo resetCall (now (room .entry))) × (now (room .exit) ≡ roomAfter resetCall (now (room .entry))) ⌝ }
+{
+    replied(navmessage::reset_authbits(room))
+}
+
+// D, N.
+fn fresh(room: &mut [u8], body: &[u8]) -> Told
+    requires { ⌜ length (now body) ≡ 2 ⌝ }
+    ensures { λ r. ⌜ (toldAnswer r ≡ answerTo (freshCall (getD (now (body .entry)) 0 0) (getD (now (body .entry)) 1 0)) (now (room .entry))) × (now (room .exit) ≡ roomAfter (freshCall (getD (now (body .entry)) 0 0) (getD (now (body .entry)) 1 0)) (now (room .entry))) ⌝ }
+{
+    replied(navmessage::fresh(room, body[0], body[1]))
+}
+
+// The satellite that a record names: the first byte of its body.
+fn satellite(body: &[u8]) -> Svn
+    ensures { λ r. ⌜ r .0 ≡ getD (now (body .entry)) 0 0 ⌝ }
+{
+    if body.len() == 0 {
+        return Svn(0);
+    }
+    Svn(body[0])
+}
+
+// What a record's call answers, and the room after it.
+pub fn told(room: &mut [u8], kind: Kind, body: &[u8]) -> Told
+    requires { ⌜ length (now body) ≡ bodyLength kind ⌝ }
+    ensures { λ r. ⌜ (toldAnswer r ≡ recordAnswer kind (now (body .entry)) (now (room .entry))) × (now (room .exit) ≡ recordRoom kind (now (body .entry)) (now (room .entry))) ⌝ }
+{
+    match kind {
+        Kind::Word => word(room, body),
+        Kind::Tag => tag(room, body),
+        Kind::Reset => reset(room),
+        Kind::Ced => asked(navmessage::get_ced_and_status(room, satellite(body))),
+        Kind::Timing => asked(navmessage::get_timing_parameters(room, satellite(body))),
+        Kind::Fresh => fresh(room, body),
+        Kind::Unknown => Told::Refused(UNKNOWN_KIND),
+    }
+}
+
+// The part of the room that a record's call hands out.
+pub fn part<'a>(room: &'a [u8], kind: Kind, body: &[u8]) -> &'a [u8]
+    requires { ⌜ length (now body) ≡ bodyLength kind ⌝ }
+    ensures { λ r. ⌜ now r ≡ recordPart kind (now (body .entry)) (now (room .entry)) ⌝ }
+{
+    match kind {
+        Kind::Word => &room[..0],
+        Kind::Tag => &room[..0],
+        Kind::Reset => &room[..0],
+        Kind::Ced => navmessage::ced_and_status_data(room, satellite(body)),
+        Kind::Timing => navmessage::timing_parameters_data(room, satellite(body)),
+        Kind::Fresh => &room[..0],
+        Kind::Unknown => &room[..0],
+    }
+}
+
+// The line for a whole record, from a place of `out` on, and the room after it.
+pub fn answer(room: &mut [u8], kind: Kind, body: &[u8], out: &mut [u8], at: usize) -> usize
+    requires { ⌜ (length (now body) ≡ bodyLength kind) × (at + 200 ≤ length (now out)) ⌝ }
+    ensures { λ r. ⌜ (now (room .exit) ≡ recordRoom kind (now (body .entry)) (now (room .entry)))
+        × ((Put (now (out .entry)) at (recordLine kind (now (body .entry)) (now (room .entry))) (now (out .exit)) r) × (r ≤ at + 200)) ⌝ }
+{
+    let told = told(room, kind, body);
+    lines::put_line(out, at, kind, satellite(body), told, part(room, kind, body))
+}

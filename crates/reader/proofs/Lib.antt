@@ -1,0 +1,3 @@
+-- The laws of `reader`.
+pub mod Heard
+pub mod Determined
