@@ -1,0 +1,214 @@
+/* Calls the port and the unchanged Rust on the same inputs, requires the same answers and the same room after each part, and has the
+ * instructions of each part counted by callgrind: collection is on only inside COUNT, and each part is dumped under its name.
+ *
+ * usage: harness D N         all parts at this size, each dump named SIDE/PART/CALLS
+ *        harness D N stack   the stack that each call of the port needs, by a painted stack */
+#include <stdio.h>
+#include <stdlib.h>
+#include <string.h>
+#include <ucontext.h>
+#include <valgrind/callgrind.h>
+#include "dawnstook.h"
+
+typedef struct store store;
+typedef struct { uint8_t number; uint16_t authbits; uint16_t week; uint32_t time; size_t bits; } beside_told;
+store *beside_fresh(uint8_t d, uint8_t n);
+void beside_feed(store *s, const uint8_t *word, uint8_t sat, uint16_t week, uint32_t time, uint8_t band);
+uint8_t beside_tag(store *s, uint8_t sat, uint8_t kind, uint8_t cop, uint8_t bits, uint16_t week, uint32_t time);
+beside_told beside_ask(const store *s, bool timing, uint8_t sat);
+void beside_room(const store *s, uint8_t *room, size_t bytes, size_t d, size_t n);
+
+enum { WEEK = 1177, CALLS = 8, MOST = DAWNSTOOK_ROOM_SIZE(16, 36) };
+static const uint8_t types[15] = {2, 4, 6, 10, 0, 0, 0, 0, 1, 3, 5, 0, 0, 0, 0};
+static uint8_t room[MOST], others[MOST];
+static size_t size;
+static uint8_t d, n;
+static store *rust;
+static uint32_t now = 30000;
+
+static void dump(const char *side, const char *part, int calls) {
+    char name[80];
+    snprintf(name, sizeof name, "%s/%s/%d", side, part, calls);
+    CALLGRIND_DUMP_STATS_AT(name);
+}
+#define COUNT(call) do { CALLGRIND_TOGGLE_COLLECT; call; CALLGRIND_TOGGLE_COLLECT; } while (0)
+#define NEED(fact) do { if (!(fact)) { fprintf(stderr, "harness: line %d: %s does not hold\n", __LINE__, #fact); exit(1); } } while (0)
+
+static void same_room(void) {
+    beside_room(rust, others, size, d, n);
+    NEED(memcmp(room, others, size) == 0);
+}
+
+static void make_word(uint8_t *word, uint8_t sat, uint8_t type) {
+    for (int i = 0; i < 16; i++) word[i] = (uint8_t)(sat * 37 + type * 11 + i * 5);
+    word[0] = (uint8_t)((type << 2) | (sat & 3));
+}
+
+static bool rust_side;
+static void word(uint8_t sat, uint8_t type, bool counted) {
+    uint8_t w[16], number = 0;
+    make_word(w, sat, type);
+    if (rust_side) {
+        if (counted) COUNT(beside_feed(rust, w, sat, WEEK, now, 0));
+        else beside_feed(rust, w, sat, WEEK, now, 0);
+    } else {
+        if (counted) COUNT(number = dawnstook_feed(room, size, w, 16, sat, WEEK, now, 0));
+        else number = dawnstook_feed(room, size, w, 16, sat, WEEK, now, 0);
+        NEED(number == 0);
+    }
+}
+
+static void tag(uint8_t sat, uint8_t kind, uint32_t mack, bool shown) {
+    uint8_t asked = 0, data[69];
+    dawnstook_taken taken = {0, 0};
+    dawnstook_shown seen;
+    if (rust_side) {
+        COUNT(asked = beside_tag(rust, sat, kind, 1, 40, WEEK, mack));
+        NEED(asked == 1);
+        return;
+    }
+    if (shown) COUNT(seen = dawnstook_candidate(room, size, sat, kind, 1, WEEK, mack));
+    else seen = dawnstook_candidate(room, size, sat, kind, 1, WEEK, mack);
+    NEED(seen.number == 0);
+    memcpy(data, room + seen.offset, seen.bytes);
+    COUNT(taken = dawnstook_tag(room, size, sat, kind, 1, 40, 2, WEEK, mack, data, seen.bytes, true));
+    NEED(taken.number == 0 && taken.records > 0);
+}
+
+static beside_told told[2][64];
+static void ask(bool timing, uint8_t sat, int i) {
+    beside_told got = {0, 0, 0, 0, 0};
+    if (rust_side) {
+        COUNT(got = beside_ask(rust, timing, sat));
+    } else {
+        dawnstook_told t;
+        if (timing) COUNT(t = dawnstook_get_timing_parameters(room, size, sat));
+        else COUNT(t = dawnstook_get_ced_and_status(room, size, sat));
+        got.number = t.number, got.authbits = t.authbits, got.week = t.week, got.time = t.time;
+        got.bits = t.bytes == 69 ? 549 : t.bytes == 18 ? 141 : 0;
+    }
+    told[rust_side][i] = got;
+}
+
+/* Both sides of one part: the Rust first, so that the clock can be set back for the port. */
+static void part(const char *name, void (*body)(void), int calls) {
+    uint32_t before = now;
+    for (int side = 1; side >= 0; side--) {
+        now = before;
+        rust_side = side;
+        memset(told[side], 0, sizeof told[side]);
+        CALLGRIND_ZERO_STATS;
+        body();
+        if (name) dump(side ? "rust" : "port", name, calls);
+    }
+    for (int i = 0; i < 64; i++) NEED(memcmp(&told[0][i], &told[1][i], sizeof told[0][i]) == 0);
+    same_room();
+}
+
+static uint8_t sats(void) { return n < 20 ? n : 20; }
+static uint8_t some(int i) { return (uint8_t)(1 + i * (n - 1) / (CALLS - 1)); }
+static void nothing(void) { for (int i = 0; i < CALLS; i++) COUNT((void)0); }
+static void first_fill(void) { for (int i = 0; i < CALLS; i++) word((uint8_t)(i + 1), 1, true); }
+static void fill_row(uint8_t most) {
+    for (uint8_t s = 1; s <= most; s++)
+        for (int t = 0; t < 15; t++) word(s, types[t], false);
+}
+static void fill_rows(void) { for (int r = 0; r <= d; r++) { now += 30; fill_row(n); } }
+static void again(void) { for (int i = 0; i < CALLS; i++) word(some(i), 1, true); }
+static void new_subframe(void) { for (int i = 0; i < CALLS; i++) { now += 30; word(some(i), 1, true); } }
+static void ced_tag(void) { for (int i = 0; i < CALLS; i++) tag(some(i), 0, now + 30, false); }
+static void timing_tag(void) { for (int i = 0; i < CALLS; i++) tag(some(i), 4, now + 30, false); }
+static void ask_ced(void) { for (int i = 0; i < CALLS; i++) ask(false, some(i), i); }
+static void ask_timing(void) { for (int i = 0; i < CALLS; i++) ask(true, some(i), i); }
+static void test(void) {
+    uint8_t w[16] = {0}, number = 0;
+    if (rust_side) return;
+    for (int i = 0; i < CALLS; i++) {
+        COUNT(number = dawnstook_feed(room, size, w, 16, 0, WEEK, now, 0));
+        NEED(number == 4);
+    }
+}
+static bool with_candidates;
+static void yard_before(void) { for (int r = 0; r <= d; r++) { now += 30; fill_row(sats()); } }
+static void yard_words(void) {
+    now += 30;
+    for (int t = 0; t < 15; t++) for (uint8_t s = 1; s <= sats(); s++) word(s, types[t], true);
+}
+static void yard_tags(void) {
+    static const uint8_t kinds[6] = {0, 0, 4, 12, 0, 4};
+    for (uint8_t s = 1; s <= sats(); s++)
+        for (int k = 0; k < 6; k++) tag((uint8_t)(1 + (s + k) % sats()), kinds[k], now, with_candidates);
+}
+static void yard_asks(void) { for (uint8_t s = 1; s <= sats(); s++) ask(false, s, 2 * s), ask(true, s, 2 * s + 1); }
+
+static void fresh(void) {
+    rust = beside_fresh(d, n);
+    NEED(dawnstook_fresh(room, size, d, n) == 0);
+    same_room();
+}
+
+/* A call run on a stack of its own, painted before; what is painted no more was needed. */
+static ucontext_t here, there;
+static uint8_t stack[1 << 16];
+static uint8_t given[69];
+static void on_nothing(void) {}
+static void on_fresh(void) { dawnstook_fresh(room, size, d, n); }
+static void on_feed(void) { uint8_t w[16]; make_word(w, 1, 1); dawnstook_feed(room, size, w, 16, 1, WEEK, now, 0); }
+static void on_candidate(void) { dawnstook_candidate(room, size, 1, 0, 1, WEEK, now + 30); }
+static void on_tag(void) { dawnstook_tag(room, size, 1, 0, 1, 40, 2, WEEK, now + 30, given, 69, true); }
+static void on_ask(void) { dawnstook_get_ced_and_status(room, size, 1); dawnstook_get_timing_parameters(room, size, 1); }
+static void on_reset(void) { dawnstook_reset_authbits(room, size); }
+static size_t needed(void (*body)(void)) {
+    size_t i = 0;
+    memset(stack, 0xa5, sizeof stack);
+    getcontext(&there);
+    there.uc_stack.ss_sp = stack, there.uc_stack.ss_size = sizeof stack, there.uc_link = &here;
+    makecontext(&there, body, 0);
+    swapcontext(&here, &there);
+    while (i < sizeof stack && stack[i] == 0xa5) i++;
+    return sizeof stack - i;
+}
+static void stacks(void) {
+    size_t none = needed(on_nothing);
+    rust_side = false;
+    printf("stack, bytes with the return address: fresh %zu", needed(on_fresh) - none);
+    fill_rows();
+    dawnstook_shown seen = dawnstook_candidate(room, size, 1, 0, 1, WEEK, now + 30);
+    memcpy(given, room + seen.offset, 69);
+    size_t move = 0, stay;
+    now += 30;
+    move = needed(on_feed) - none;
+    stay = needed(on_feed) - none;
+    now -= 30;
+    printf(", word %zu, candidate %zu", move > stay ? move : stay, needed(on_candidate) - none);
+    printf(", tag %zu, ask %zu", needed(on_tag) - none, needed(on_ask) - none);
+    printf(", reset %zu\n", needed(on_reset) - none);
+}
+
+int main(int argc, char **argv) {
+    NEED(argc >= 3);
+    d = (uint8_t)atoi(argv[1]), n = (uint8_t)atoi(argv[2]);
+    size = dawnstook_room_size(d, n);
+    fresh();
+    if (argc > 3) return stacks(), 0;
+    part("nothing", nothing, CALLS);
+    part("word, first fill", first_fill, CALLS);
+    part(NULL, fill_rows, 0);
+    part("same word again", again, CALLS);
+    part("CED tag", ced_tag, CALLS);
+    part("timing tag", timing_tag, CALLS);
+    part("ask CED", ask_ced, CALLS);
+    part("ask timing", ask_timing, CALLS);
+    part("word, new subframe", new_subframe, CALLS);
+    part("the room's test", test, CALLS);
+    for (int k = 0; k < 2; k++) {
+        fresh();
+        part(NULL, yard_before, 0);
+        part(k ? NULL : "yard, words", yard_words, 15 * sats());
+        with_candidates = k == 1;
+        part(k ? "yard, tags with candidates" : "yard, tags", yard_tags, 6 * sats());
+        part(k ? NULL : "yard, askings", yard_asks, 2 * sats());
+        part(k ? NULL : "yard, the room's test", test, CALLS);
+    }
+    return 0;
+}

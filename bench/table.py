@@ -1,0 +1,61 @@
+"""Prints the table of instructions a call from callgrind's dumps.
+
+usage: table.py FOLDER "D N".. ; FOLDER/D-N has the dumps of that size, each named SIDE/PART/CALLS
+"""
+import glob
+import re
+import sys
+
+folder, sizes = sys.argv[1], sys.argv[2:]
+
+
+def counts(size):
+    found = {}
+    for name in glob.glob("%s/%s/callgrind.out.*" % (folder, size.replace(" ", "-"))):
+        text = open(name).read()
+        label = re.search(r"^desc: Trigger: Client Request: (.*)$", text, re.M)
+        total = re.search(r"^(?:totals|summary): (\d+)", text, re.M)
+        if label and total:
+            side, part, calls = label.group(1).strip().split("/")
+            found[part, side] = (int(total.group(1)), int(calls))
+    return found
+
+
+CALLS = [
+    "word, first fill", "same word again", "word, new subframe", "CED tag", "timing tag", "ask CED", "ask timing", "the room's test",
+]
+YARD = ["yard, words", "yard, tags", "yard, askings"]
+
+
+def line(name, port, rust):
+    print("| %s | %.0f | %.0f | %.2f |" % (name, port, rust, port / rust))
+
+
+for size in sizes:
+    got = counts(size)
+    d, n = map(int, size.split())
+    # what switching the count on and off costs by itself
+    inside = {side: got["nothing", side][0] / got["nothing", side][1] for side in ("port", "rust")}
+
+    def total(part, side):
+        return got[part, side][0] - got[part, side][1] * inside[side]
+
+    def each(part, side):
+        return total(part, side) / got[part, side][1]
+
+    print("\nD %d, N %d (%d records)\n\n| Call | port | Rust | ratio |\n|---|---:|---:|---:|" % (d, n, 2 * d * n))
+    for part in CALLS:
+        if part == "the room's test":
+            print("| %s | %.0f | none | %.1f a record |" % (part, each(part, "port"), each(part, "port") / (2 * d * n)))
+        else:
+            line(part, each(part, "port"), each(part, "rust"))
+    for part in YARD:
+        line("%s, %d calls" % (part, got[part, "port"][1]), total(part, "port"), total(part, "rust"))
+    whole = {side: sum(total(part, side) for part in YARD) for side in ("port", "rust")}
+    line("**yard's subframe**", whole["port"], whole["rust"])
+    calls = sum(got[part, "port"][1] for part in YARD)
+    test = each("yard, the room's test", "port")
+    print("| of it the room's test, %d × %.0f | %.0f | none | %.2f |" % (calls, test, calls * test, calls * test / whole["rust"]))
+    line("of it all else", whole["port"] - calls * test, whole["rust"])
+    more = total("yard, tags with candidates", "port") - total("yard, tags", "port")
+    line("yard's subframe, with a candidate shown for each tag", whole["port"] + more, whole["rust"])
