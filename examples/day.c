@@ -21,11 +21,12 @@ int main(void) {
     printf("before the tag: %d\n", early.number);
 
     /* The tag comes a subframe later. Its data is copied out of the room, and the receiver checks it with the key. */
-    dawnstook_shown seen = dawnstook_candidate(room, sizeof room, 11, DAWNSTOOK_CED, 1, week, start + 30);
+    dawnstook_moment mack = dawnstook_add_subframes(week, start, 1);
+    dawnstook_shown seen = dawnstook_candidate(room, sizeof room, 11, DAWNSTOOK_CED, 1, mack.week, mack.time);
     uint8_t data[DAWNSTOOK_CED_BYTES];
     memcpy(data, room + seen.offset, seen.bytes);
-    dawnstook_taken tag = dawnstook_tag(room, sizeof room, 11, DAWNSTOOK_CED, 1, 40, DAWNSTOOK_OPERATIONAL, week,
-                                        start + 30, data, seen.bytes, true);
+    dawnstook_taken tag = dawnstook_tag(room, sizeof room, 11, DAWNSTOOK_CED, 1, 40, DAWNSTOOK_OPERATIONAL,
+                                        mack.week, mack.time, data, seen.bytes, true);
     printf("candidate %d, %zu bytes; tag %d, records %u\n", seen.number, seen.bytes, tag.number, tag.records);
 
     dawnstook_told told = dawnstook_get_ced_and_status(room, sizeof room, 11);

@@ -20,7 +20,7 @@ fn main() -> Result<(), Refusal> {
     println!("before the tag: {}", number(store.get_ced_and_status(11).map(|_| ())));
 
     // The tag comes a subframe later. Its data is copied out of the room, and the receiver checks it with the key.
-    let tag = Tag { svn: 11, adkd: Adkd::InavCed, cop: 1, mack: Gst { tow: start.tow + 30, ..start } };
+    let tag = Tag { svn: 11, adkd: Adkd::InavCed, cop: 1, mack: start.add_subframes(1)? };
     let data = store.candidate(tag)?.to_vec();
     let records = store.tag(tag, 40, NmaStatus::Operational, &data, true)?;
     println!("candidate 0, {} bytes; tag 0, records {records}", data.len());

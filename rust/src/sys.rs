@@ -23,6 +23,25 @@ pub struct Told {
     pub bytes: usize,
 }
 
+#[repr(C)]
+pub struct Moment {
+    pub number: u8,
+    pub week: u16,
+    pub time: u32,
+}
+
+#[repr(C)]
+pub struct Mark {
+    pub number: u8,
+    pub start: u8,
+}
+
+#[repr(C)]
+pub struct Span {
+    pub number: u8,
+    pub subframes: i32,
+}
+
 extern "C" {
     pub fn dawnstook_room_size(d: u8, n: u8) -> usize;
     pub fn dawnstook_fresh(room: *mut u8, room_len: usize, d: u8, n: u8) -> u8;
@@ -37,4 +56,9 @@ extern "C" {
     pub fn dawnstook_get_ced_and_status(room: *const u8, room_len: usize, sat: u8) -> Told;
     pub fn dawnstook_get_timing_parameters(room: *const u8, room_len: usize, sat: u8) -> Told;
     pub fn dawnstook_reset_authbits(room: *mut u8, room_len: usize) -> u8;
+    pub fn dawnstook_add_seconds(week: u16, time: u32, seconds: i32) -> Moment;
+    pub fn dawnstook_add_subframes(week: u16, time: u32, subframes: i32) -> Moment;
+    pub fn dawnstook_gst_subframe(week: u16, time: u32) -> Moment;
+    pub fn dawnstook_is_subframe(week: u16, time: u32) -> Mark;
+    pub fn dawnstook_subframes_difference(week: u16, time: u32, other_week: u16, other_time: u32) -> Span;
 }

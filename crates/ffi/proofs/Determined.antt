@@ -19,6 +19,16 @@ use Rattle.ffi.proofs.dawnstook_get_timing_parameters.Reads as dawnstoo
 use Rattle.ffi.proofs.dawnstook_get_timing_parameters.Kinds as dawnstook-get-timing-parameters-kinds
 use Rattle.ffi.proofs.dawnstook_reset_authbits.Reads as dawnstook-reset-authbits-reads
 use Rattle.ffi.proofs.dawnstook_reset_authbits.Kinds as dawnstook-reset-authbits-kinds
+use Rattle.ffi.proofs.dawnstook_add_seconds.Reads as dawnstook-add-seconds-reads
+use Rattle.ffi.proofs.dawnstook_add_seconds.Kinds as dawnstook-add-seconds-kinds
+use Rattle.ffi.proofs.dawnstook_add_subframes.Reads as dawnstook-add-subframes-reads
+use Rattle.ffi.proofs.dawnstook_add_subframes.Kinds as dawnstook-add-subframes-kinds
+use Rattle.ffi.proofs.dawnstook_gst_subframe.Reads as dawnstook-gst-subframe-reads
+use Rattle.ffi.proofs.dawnstook_gst_subframe.Kinds as dawnstook-gst-subframe-kinds
+use Rattle.ffi.proofs.dawnstook_is_subframe.Reads as dawnstook-is-subframe-reads
+use Rattle.ffi.proofs.dawnstook_is_subframe.Kinds as dawnstook-is-subframe-kinds
+use Rattle.ffi.proofs.dawnstook_subframes_difference.Reads as dawnstook-subframes-difference-reads
+use Rattle.ffi.proofs.dawnstook_subframes_difference.Kinds as dawnstook-subframes-difference-kinds
 
 pub dawnstook-room-size-determined :
     (κs : Lfts 0)
@@ -83,3 +93,43 @@ pub dawnstook-reset-authbits-determined :
     (e e' : AtExit (endedOf 1 dawnstook-reset-authbits-kinds.ps dawnstook-reset-authbits-kinds.r) κs)
     → dawnstook-reset-authbits-reads.Post κs a r e → dawnstook-reset-authbits-reads.Post κs a r' e' → (r ≡ r') × (e .0 .now ≡ e' .0 .now)
 dawnstook-reset-authbits-determined κs a r r' e e' p q = (p .0 ∙ sym (q .0), p .1 ∙ sym (q .1))
+
+pub dawnstook-add-seconds-determined :
+    (κs : Lfts 0)
+    (a : Dens κs dawnstook-add-seconds-kinds.ps)
+    (r r' : resT dawnstook-add-seconds-kinds.r κs .Denot)
+    (e e' : AtExit (endedOf 0 dawnstook-add-seconds-kinds.ps dawnstook-add-seconds-kinds.r) κs)
+    → dawnstook-add-seconds-reads.Post κs a r e → dawnstook-add-seconds-reads.Post κs a r' e' → r ≡ r'
+dawnstook-add-seconds-determined κs a r r' e e' p q = p ∙ sym q
+
+pub dawnstook-add-subframes-determined :
+    (κs : Lfts 0)
+    (a : Dens κs dawnstook-add-subframes-kinds.ps)
+    (r r' : resT dawnstook-add-subframes-kinds.r κs .Denot)
+    (e e' : AtExit (endedOf 0 dawnstook-add-subframes-kinds.ps dawnstook-add-subframes-kinds.r) κs)
+    → dawnstook-add-subframes-reads.Post κs a r e → dawnstook-add-subframes-reads.Post κs a r' e' → r ≡ r'
+dawnstook-add-subframes-determined κs a r r' e e' p q = p ∙ sym q
+
+pub dawnstook-gst-subframe-determined :
+    (κs : Lfts 0)
+    (a : Dens κs dawnstook-gst-subframe-kinds.ps)
+    (r r' : resT dawnstook-gst-subframe-kinds.r κs .Denot)
+    (e e' : AtExit (endedOf 0 dawnstook-gst-subframe-kinds.ps dawnstook-gst-subframe-kinds.r) κs)
+    → dawnstook-gst-subframe-reads.Post κs a r e → dawnstook-gst-subframe-reads.Post κs a r' e' → r ≡ r'
+dawnstook-gst-subframe-determined κs a r r' e e' p q = p ∙ sym q
+
+pub dawnstook-is-subframe-determined :
+    (κs : Lfts 0)
+    (a : Dens κs dawnstook-is-subframe-kinds.ps)
+    (r r' : resT dawnstook-is-subframe-kinds.r κs .Denot)
+    (e e' : AtExit (endedOf 0 dawnstook-is-subframe-kinds.ps dawnstook-is-subframe-kinds.r) κs)
+    → dawnstook-is-subframe-reads.Post κs a r e → dawnstook-is-subframe-reads.Post κs a r' e' → r ≡ r'
+dawnstook-is-subframe-determined κs a r r' e e' p q = p ∙ sym q
+
+pub dawnstook-subframes-difference-determined :
+    (κs : Lfts 0)
+    (a : Dens κs dawnstook-subframes-difference-kinds.ps)
+    (r r' : resT dawnstook-subframes-difference-kinds.r κs .Denot)
+    (e e' : AtExit (endedOf 0 dawnstook-subframes-difference-kinds.ps dawnstook-subframes-difference-kinds.r) κs)
+    → dawnstook-subframes-difference-reads.Post κs a r e → dawnstook-subframes-difference-reads.Post κs a r' e' → r ≡ r'
+dawnstook-subframes-difference-determined κs a r r' e e' p q = p ∙ sym q

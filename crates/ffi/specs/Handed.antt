@@ -1,10 +1,15 @@
 -- What an export hands back for the paper's answer: its number and its values, each 0 beside a refusal, and where the part lies.
 use Prim.Native.Nat.{ℕ}
 use lib.ListN.{getD}
+use lib.IntN.{pos}
 use Rattle.paper.specs.Number.{Answer, number, values}
+use Rattle.paper.specs.Time.{Difference, subframes, noDifference}
 use Rattle.ffi.specs.declared.Taken.{Taken}
 use Rattle.ffi.specs.declared.Shown.{Shown}
 use Rattle.ffi.specs.declared.Told.{Told}
+use Rattle.ffi.specs.declared.Moment.{Moment}
+use Rattle.ffi.specs.declared.Mark.{Mark}
+use Rattle.ffi.specs.declared.Span.{Span}
 
 abbrev pub takenOf : Answer → Taken
 takenOf a = record { number = number a; records = getD (values a) 0 0 }
@@ -22,3 +27,13 @@ toldOf a offset bytes =
       offset = offset;
       bytes = bytes;
     }
+
+abbrev pub momentOf : Answer → Moment
+momentOf a = record { number = number a; week = getD (values a) 0 0; time = getD (values a) 1 0 }
+
+abbrev pub markOf : Answer → Mark
+markOf a = record { number = number a; start = getD (values a) 0 0 }
+
+abbrev pub spanOf : Difference → Span
+spanOf (subframes k) = record { number = 0; subframes = k }
+spanOf (noDifference n) = record { number = n; subframes = pos 0 }

@@ -9,12 +9,17 @@ ghost use Rattle.paper.specs.Record.{CED, Timing as TIMING, familyIf, dataAt, d
 ghost use Rattle.paper.specs.Room.{roomSize};
 ghost use Rattle.paper.specs.Store.{sizesAllowed};
 ghost use Rattle.paper.specs.Answer.{freshAnswer, freshRoom, feedAnswer, feedRoom, tagAnswer, tagRoom, candidateAnswer, candidateData, askAnswer, askData, resetAnswer, resetRoom};
+ghost use Rattle.paper.specs.Time.{addSeconds, addSubframes, subframeOf, isSubframe, difference};
+ghost use Rattle.gst.specs.Answer.{answerOf as timeOf, startAnswer, apartAnswer};
 ghost use Rattle.refusals.specs.Reply.{answerOf};
 ghost use Rattle.tags.specs.Place.{taggedAnswer};
-ghost use Rattle.ffi.specs.Handed.{takenOf, shownOf, toldOf};
+ghost use Rattle.ffi.specs.Handed.{takenOf, shownOf, toldOf, momentOf, markOf, spanOf};
 ghost use Rattle.ffi.specs.Offset.{candidateOffset, askOffset};
 use ask::Asked;
+use gst::Apart;
 use gst::Gst;
+use gst::NewTime;
+use gst::Start;
 use gst::Tow;
 use gst::Wn;
 use records::Ced;
@@ -48,6 +53,28 @@ pub struct Told {
     pub time: u32,
     pub offset: usize,
     pub bytes: usize,
+}
+
+// A new time: its number, the week and the time of week.
+#[repr(C)]
+pub struct Moment {
+    pub number: u8,
+    pub week: u16,
+    pub time: u32,
+}
+
+// Whether a time starts a subframe: its number, and 1 where it does.
+#[repr(C)]
+pub struct Mark {
+    pub number: u8,
+    pub start: u8,
+}
+
+// How many subframes two times are apart: its number, and how many.
+#[repr(C)]
+pub struct Span {
+    pub number: u8,
+    pub subframes: i32,
 }
 
 fn reply_number(reply: Reply) -> u8
@@ -257,4 +284,129 @@ pub extern "C" fn dawnstook_reset_authbits(room: &mut [u8]) -> u8
     ensures { λ r. ⌜ (r ≡ number (resetAnswer (now (room .entry)))) × (now (room .exit) ≡ resetRoom (now (room .entry))) ⌝ }
 {
     reply_number(navmessage::reset_authbits(room))
+}
+
+fn of_time(time: NewTime) -> Moment
+    ensures { λ r. ⌜ r ≡ momentOf (timeOf time) ⌝ }
+{
+    match time {
+        NewTime::Time(gst) => Moment {
+            number: 0,
+            week: gst.wn.0,
+            time: gst.tow.0,
+        },
+        NewTime::NoTime => Moment {
+            number: 5,
+            week: 0,
+            time: 0,
+        },
+        NewTime::OutOfRange => Moment {
+            number: 7,
+            week: 0,
+            time: 0,
+        },
+    }
+}
+
+// The time `seconds` later, or earlier where they are below 0.
+#[no_mangle]
+pub extern "C" fn dawnstook_add_seconds(week: u16, time: u32, seconds: i32) -> Moment
+    ensures { λ r. ⌜ r ≡ momentOf (addSeconds week time seconds) ⌝ }
+{
+    let gst = Gst {
+        wn: Wn(week),
+        tow: Tow(time),
+    };
+    of_time(gst.add_seconds(seconds))
+}
+
+// The time so many 30 s subframes later.
+#[no_mangle]
+pub extern "C" fn dawnstook_add_subframes(week: u16, time: u32, subframes: i32) -> Moment
+    ensures { λ r. ⌜ r ≡ momentOf (addSubframes week time subframes) ⌝ }
+{
+    let gst = Gst {
+        wn: Wn(week),
+        tow: Tow(time),
+    };
+    of_time(gst.add_subframes(subframes))
+}
+
+// The start of the subframe that the time is in.
+#[no_mangle]
+pub extern "C" fn dawnstook_gst_subframe(week: u16, time: u32) -> Moment
+    ensures { λ r. ⌜ r ≡ momentOf (subframeOf week time) ⌝ }
+{
+    let gst = Gst {
+        wn: Wn(week),
+        tow: Tow(time),
+    };
+    of_time(gst.gst_subframe())
+}
+
+fn of_start(start: Start) -> Mark
+    ensures { λ r. ⌜ r ≡ markOf (startAnswer start) ⌝ }
+{
+    match start {
+        Start::Yes => Mark {
+            number: 0,
+            start: 1,
+        },
+        Start::No => Mark {
+            number: 0,
+            start: 0,
+        },
+        Start::NoTime => Mark {
+            number: 5,
+            start: 0,
+        },
+    }
+}
+
+// Whether the time is the start of a subframe.
+#[no_mangle]
+pub extern "C" fn dawnstook_is_subframe(week: u16, time: u32) -> Mark
+    ensures { λ r. ⌜ r ≡ markOf (isSubframe week time) ⌝ }
+{
+    let gst = Gst {
+        wn: Wn(week),
+        tow: Tow(time),
+    };
+    of_start(gst.is_subframe())
+}
+
+fn of_apart(apart: Apart) -> Span
+    ensures { λ r. ⌜ r ≡ spanOf (apartAnswer apart) ⌝ }
+{
+    match apart {
+        Apart::Subframes(subframes) => Span {
+            number: 0,
+            subframes,
+        },
+        Apart::NoTime => Span {
+            number: 5,
+            subframes: 0,
+        },
+    }
+}
+
+// The subframes from the other time to this one, those of the times of week rounded toward zero.
+#[no_mangle]
+pub extern "C" fn dawnstook_subframes_difference(
+    week: u16,
+    time: u32,
+    other_week: u16,
+    other_time: u32,
+) -> Span
+    ensures { λ r. ⌜ r ≡ spanOf (difference week time «other_week» «other_time») ⌝ }
+{
+    let gst = Gst {
+        wn: Wn(week),
+        tow: Tow(time),
+    };
+    let other = Gst {
+        wn: Wn(other_week),
+        tow: Tow(other_time),
+    };
+    of_apart(gst.subframes_difference(other))
 }
