@@ -1,5 +1,6 @@
 // "Not a store", refusal 3 of document 01: whether the bytes of a room are one. Every test stops at its first fault, and of a record
-// it reads the satellite, the count where there is no satellite, and the last byte.
+// it reads the satellite, the count where there is no satellite, and the last byte. Nearly every slot of a store is passed at one
+// look at both its records: see `is_plain`.
 ghost use mathlib.Core.Path.{_≡_};
 ghost use mathlib.Core.Bool.{_&&_};
 ghost use Prim.Native.Nat.{_+_, _*_, _≤_, _<_};
@@ -8,6 +9,7 @@ ghost use lib.ListN.{length};
 ghost use Rattle.paper.specs.Parts.{allParts};
 ghost use Rattle.paper.specs.Record.{Family, size, satellite, count};
 ghost use Rattle.paper.specs.Room.{slotSize, rowSize, roomSize};
+ghost use Rattle.store.specs.Slot.{isEmpty, isShared, isPlain};
 ghost use Rattle.paper.specs.Store.{sizesAllowed, headerInRange, headerZeros, recordAllowed, slotAllowed, markAllowed, subframeAllowed, blankAllowed, rowAllowed, isStore};
 use layout::HEADER;
 use layout::MOST_ROWS;
@@ -100,6 +102,66 @@ fn slot_allowed(slot: &[u8], most: u8) -> bool
     record_allowed(&slot[TIMING_AT..SLOT], most)
 }
 
+// Nothing in either record. The CED record's last byte and the timing record's satellite and count are four bytes in a row.
+fn is_empty(slot: &[u8]) -> bool
+    requires { ⌜ length (now slot) ≡ slotSize ⌝ }
+    ensures { λ r. ⌜ r ≡ isEmpty (now (slot .entry)) ⌝ }
+{
+    if holds(slot) != 0 {
+        return false;
+    }
+    if numbers::read32(slot, TIMING_AT - 1) != 0 {
+        return false;
+    }
+    slot[SLOT - 1] % 8 == 0
+}
+
+// Both records of one satellite, whichever, and no bit past them.
+fn is_shared(slot: &[u8]) -> bool
+    requires { ⌜ length (now slot) ≡ slotSize ⌝ }
+    ensures { λ r. ⌜ r ≡ isShared (now (slot .entry)) ⌝ }
+{
+    if slot[TIMING_AT] != slot[0] {
+        return false;
+    }
+    if slot[TIMING_AT - 1] % 8 != 0 {
+        return false;
+    }
+    slot[SLOT - 1] % 8 == 0
+}
+
+// Whether one look is enough. Where it is not, the slot may still be allowed.
+fn is_plain(slot: &[u8], most: u8) -> bool
+    requires { ⌜ length (now slot) ≡ slotSize ⌝ }
+    ensures { λ r. ⌜ r ≡ isPlain most (now (slot .entry)) ⌝ }
+{
+    if most > 0 {
+        if known(slot[0], most) {
+            return is_shared(slot);
+        }
+    }
+    is_empty(slot)
+}
+
+// Record by record, the `count` slots from `from` on.
+fn rest_allowed(row: &[u8], from: usize, count: usize, most: u8) -> bool
+    requires { ⌜ from + count * slotSize ≤ length (now row) ⌝ }
+    ensures { λ r. ⌜ r ≡ allParts (slotAllowed most) slotSize count from (now (row .entry)) ⌝ }
+{
+    let mut at = from;
+    let mut left = count;
+    while left > 0 {
+        let e = at + SLOT;
+        if !slot_allowed(&row[at..e], most) {
+            return false;
+        }
+        at = e;
+        left -= 1;
+    }
+    true
+}
+
+// From the first slot on that needs more than a look, record by record.
 fn slots_allowed(row: &[u8], n: usize, most: u8) -> bool
     requires { ⌜ rowSize n ≤ length (now row) ⌝ }
     ensures { λ r. ⌜ r ≡ allParts (slotAllowed most) slotSize n 8 (now (row .entry)) ⌝ }
@@ -108,8 +170,8 @@ fn slots_allowed(row: &[u8], n: usize, most: u8) -> bool
     let mut left = n;
     while left > 0 {
         let e = at + SLOT;
-        if !slot_allowed(&row[at..e], most) {
-            return false;
+        if !is_plain(&row[at..e], most) {
+            return rest_allowed(row, at, left, most);
         }
         at = e;
         left -= 1;

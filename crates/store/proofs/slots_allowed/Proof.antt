@@ -1,13 +1,15 @@
--- `store::slots_allowed` meets its contract: the slots from here on decide what all of them decide.
+-- `store::slots_allowed` meets its contract: a slot that is passed at one look is allowed, and from the first that is not on the slots
+-- are tested record by record.
 use native.Mathlib.Omega.{arith}
 use mathlib.Core.Path.{_≡_, refl, sym, _∙_}
 use Prim.Native.Nat.{_+_, _*_, _≤_}
-use borrow.Author.Tests.{not-true, not-false}
+use borrow.Author.Tests.{not-false}
 use lib.ListN.{length}
-use Rattle.paper.proofs.Parts.{part-lent, length-lent, all-stop, all-go, all-done}
+use Rattle.paper.proofs.Parts.{part-lent, length-lent, all-go, all-done}
 use Rattle.paper.specs.Parts.{allParts}
 use Rattle.paper.specs.Room.{slotSize}
 use Rattle.paper.specs.Store.{slotAllowed}
+use Rattle.store.proofs.Slots.{plain-allowed}
 use Rattle.store.proofs.slots_allowed.Statement.{statement}
 use Rattle.store.proofs.slots_allowed.Tie as tie
 
@@ -25,22 +27,23 @@ loop-holds c = (omega arith, refl)
 add-e : tie.Need-add-e Inv-loop μ-loop
 add-e c = omega arith
 
-sub-slot-allowed : tie.Need-sub-slot-allowed Inv-loop μ-loop
-sub-slot-allowed c = omega arith
+sub-is-plain : tie.Need-sub-is-plain Inv-loop μ-loop
+sub-is-plain c = omega arith
 
-part-slot-allowed-start : tie.Need-part-slot-allowed-start Inv-loop μ-loop
-part-slot-allowed-start c = omega arith
+part-is-plain-start : tie.Need-part-is-plain-start Inv-loop μ-loop
+part-is-plain-start c = omega arith
 
-part-slot-allowed-end : tie.Need-part-slot-allowed-end Inv-loop μ-loop
-part-slot-allowed-end c = omega arith
+part-is-plain-end : tie.Need-part-is-plain-end Inv-loop μ-loop
+part-is-plain-end c = omega arith
 
-slot-allowed-requires : tie.Need-slot-allowed-requires Inv-loop μ-loop
-slot-allowed-requires c κs = length-lent (c .before .before .loop .at) slotSize (c .before .before .before .before .args .row .now) (omega arith)
+is-plain-requires : tie.Need-is-plain-requires Inv-loop μ-loop
+is-plain-requires c κs = length-lent (c .before .before .loop .at) slotSize (c .before .before .before .before .args .row .now) (omega arith)
+
+rest-allowed-requires : tie.Need-rest-allowed-requires Inv-loop μ-loop
+rest-allowed-requires c κs = c .before .before .before .before .loop .inv .0
 
 returns : tie.Need-returns Inv-loop μ-loop
-returns c =
-    all-stop _ _ _ _ _ _ (c .before .before .before .loop-test .taken) (c .before .before .before .before .loop .inv .1)
-    (rw part-lent at (sym (c .before .slot-allowed .ensures) ∙ not-true _ (c .if1 .taken)))
+returns c = c .rest-allowed .ensures ∙ sym (c .before .before .before .before .before .loop .inv .1)
 
 sub-left : tie.Need-sub-left Inv-loop μ-loop
 sub-left c = omega arith
@@ -52,7 +55,7 @@ loop-again : tie.Need-loop-again Inv-loop μ-loop
 loop-again c = (
   omega arith,
   all-go _ _ _ _ _ _ (c .before .before .before .loop-test .taken) (c .before .before .before .before .loop .inv .1)
-      (rw part-lent at (sym (c .before .slot-allowed .ensures) ∙ not-false _ (c .if1 .left))),
+      (plain-allowed _ _ (rw part-lent at (sym (c .before .is-plain .ensures) ∙ not-false _ (c .if1 .left)))),
 )
 
 returns-2 : tie.Need-returns-2 Inv-loop μ-loop
@@ -66,10 +69,11 @@ slots-allowed-spec =
     μ-loop
     loop-holds
     add-e
-    sub-slot-allowed
-    part-slot-allowed-start
-    part-slot-allowed-end
-    slot-allowed-requires
+    sub-is-plain
+    part-is-plain-start
+    part-is-plain-end
+    is-plain-requires
+    rest-allowed-requires
     returns
     sub-left
     loop-less
