@@ -192,6 +192,7 @@ int main(int argc, char **argv) {
     fresh();
     if (argc > 3) return stacks(), 0;
     part("nothing", nothing, CALLS);
+    part("the room's test, fresh", test, CALLS);
     part("word, first fill", first_fill, CALLS);
     part(NULL, fill_rows, 0);
     part("same word again", again, CALLS);

@@ -23,6 +23,7 @@ def counts(size):
 
 CALLS = [
     "word, first fill", "same word again", "word, new subframe", "CED tag", "timing tag", "ask CED", "ask timing", "the room's test",
+    "the room's test, fresh",
 ]
 YARD = ["yard, words", "yard, tags", "yard, askings"]
 
@@ -45,7 +46,7 @@ for size in sizes:
 
     print("\nD %d, N %d (%d records)\n\n| Call | port | Rust | ratio |\n|---|---:|---:|---:|" % (d, n, 2 * d * n))
     for part in CALLS:
-        if part == "the room's test":
+        if part.startswith("the room's test"):
             print("| %s | %.0f | none | %.1f a record |" % (part, each(part, "port"), each(part, "port") / (2 * d * n)))
         else:
             line(part, each(part, "port"), each(part, "rust"))
