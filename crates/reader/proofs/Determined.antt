@@ -14,6 +14,8 @@ use Rattle.reader.proofs.take_bytes.Reads as take-bytes-reads
 use Rattle.reader.proofs.take_bytes.Kinds as take-bytes-kinds
 use Rattle.reader.proofs.finish.Reads as finish-reads
 use Rattle.reader.proofs.finish.Kinds as finish-kinds
+use Rattle.reader.proofs.run.Reads as run-reads
+use Rattle.reader.proofs.run.Kinds as run-kinds
 
 abbrev place : ℕ → ℕ → Bool → Place
 place kept said stopped = record { kept = kept; said = said; stopped = stopped }
@@ -44,3 +46,11 @@ pub finish-determined :
     (e e' : AtExit (endedOf 2 finish-kinds.ps finish-kinds.r) κs)
     → finish-reads.Post κs a r e → finish-reads.Post κs a r' e' → (e .0 .now ≡ e' .0 .now) × (r ≡ r')
 finish-determined κs a r r' e e' p q = put-one (p .0) (q .0)
+
+pub run-determined :
+    (κs : Lfts 0)
+    (a : Dens κs run-kinds.ps)
+    (r r' : resT run-kinds.r κs .Denot)
+    (e e' : AtExit (endedOf 0 run-kinds.ps run-kinds.r) κs)
+    → run-reads.Post κs a r e → run-reads.Post κs a r' e' → r ≡ r'
+run-determined κs a r r' e e' p q = p ∙ sym q

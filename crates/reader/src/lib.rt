@@ -199,7 +199,10 @@ fn run_on(room: &mut [u8], kept: &mut [u8], traced: bool)
 }
 
 // The program: standard input to standard output, on a room of 57,736 bytes that is zero at the start.
-pub fn run(traced: bool) {
+// It ends, and hands nothing back: what it writes is the promise of `take_bytes` and `finish`.
+pub fn run(traced: bool)
+    ensures { λ r. ⌜ r ≡ tt ⌝ }
+{
     let mut room = [0u8; 57736];
     let mut kept = [0u8; 25];
     run_on(&mut room, &mut kept, traced);
