@@ -5,7 +5,6 @@ ghost use mathlib.Core.Bool.{_&&_, cond};
 ghost use Prim.Native.Nat.{_+_, _*_, _≤_, _<_};
 ghost use lib.Dec.{leb, eqb};
 ghost use lib.ListN.{length};
-ghost use Rattle.paper.specs.Tag.{kindKnown, copAllowed, lengthAllowed, statusKnown, statusAdds};
 ghost use Rattle.paper.specs.Answer.{freshAnswer, feedAnswer};
 ghost use Rattle.refusals.specs.Reply.{answerOf};
 ghost use Rattle.entry.specs.Mack.{mackAnswer};
@@ -23,7 +22,7 @@ const WORD: usize = 16;
 pub fn fresh_entry(room: &[u8], d: u8, n: u8) -> Reply
     ensures { λ r. ⌜ answerOf r ≡ freshAnswer d n (now (room .entry)) ⌝ }
 {
-    if !store::sizes_allowed(d, n) {
+    if !limits::sizes_allowed(d, n) {
         return Reply::Refused(Refusal::Sizes);
     }
     if room.len() < rows::row_start(rows::wide(n), rows::wide(d)) {
@@ -73,60 +72,4 @@ pub fn mack_entry(room: &[u8], svn: Svn, gst: Gst) -> Reply
         return Reply::Refused(Refusal::NotAStart);
     }
     Reply::Done
-}
-
-// "kind (0 CED, 4 timing, 12 slow CED)"
-pub fn kind_known(kind: u8) -> bool
-    ensures { λ r. ⌜ r ≡ kindKnown kind ⌝ }
-{
-    if kind == 0 {
-        return true;
-    }
-    if kind == 4 {
-        return true;
-    }
-    kind == 12
-}
-
-// "COP 0 to 15"
-pub fn cop_allowed(cop: u8) -> bool
-    ensures { λ r. ⌜ r ≡ copAllowed cop ⌝ }
-{
-    cop <= 15
-}
-
-// "length 20, 24, 28, 32 or 40"
-pub fn length_allowed(bits: u8) -> bool
-    ensures { λ r. ⌜ r ≡ lengthAllowed bits ⌝ }
-{
-    if bits == 20 {
-        return true;
-    }
-    if bits == 24 {
-        return true;
-    }
-    if bits == 28 {
-        return true;
-    }
-    if bits == 32 {
-        return true;
-    }
-    bits == 40
-}
-
-// "status (0 reserved, 1 test, 2 operational, 3 don't use)"
-pub fn status_known(status: u8) -> bool
-    ensures { λ r. ⌜ r ≡ statusKnown status ⌝ }
-{
-    status <= 3
-}
-
-// whether a tag adds under this status: "18 status 0 or 3, nothing added"
-pub fn status_adds(status: u8) -> bool
-    ensures { λ r. ⌜ r ≡ statusAdds status ⌝ }
-{
-    if status == 1 {
-        return true;
-    }
-    status == 2
 }

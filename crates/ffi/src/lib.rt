@@ -120,7 +120,7 @@ fn data_bytes(timing: bool) -> usize
 pub extern "C" fn dawnstook_room_size(d: u8, n: u8) -> usize
     ensures { λ r. ⌜ r ≡ cond (sizesAllowed d n) (roomSize d n) 0 ⌝ }
 {
-    if !store::sizes_allowed(d, n) {
+    if !limits::sizes_allowed(d, n) {
         return 0;
     }
     rows::row_start(rows::wide(n), rows::wide(d))
@@ -204,8 +204,8 @@ pub extern "C" fn dawnstook_candidate(
         wn: Wn(week),
         tow: Tow(time),
     };
-    let allowed = entry::cop_allowed(cop);
-    let known = entry::kind_known(kind);
+    let allowed = limits::cop_allowed(cop);
+    let known = limits::kind_known(kind);
     match tags::candidate_place(room, Svn(sat), kind, cop, mack, allowed, known) {
         Place::At(at) => Shown {
             number: 0,

@@ -104,8 +104,8 @@ pub fn tag(
 ) -> Tagged
     ensures { λ r. ⌜ (taggedAnswer r ≡ tagAnswer (svn .0) kind cop bits status (mack .wn .0) (mack .tow .0) (now (given .entry)) verdict (now (room .entry))) × (now (room .exit) ≡ tagRoom (svn .0) kind cop bits status (mack .wn .0) (mack .tow .0) (now (given .entry)) verdict (now (room .entry))) ⌝ }
 {
-    let allowed = tags::tag_allowed(cop, bits);
-    let known = tags::tag_known(kind, status);
+    let allowed = limits::tag_allowed(cop, bits);
+    let known = limits::tag_known(kind, status);
     match tags::candidate_place(room, svn, kind, cop, mack, allowed, known) {
         Place::At(at) => tags::accept(
             room,
@@ -125,8 +125,8 @@ pub fn tag(
 pub fn candidate(room: &[u8], svn: Svn, kind: u8, cop: u8, mack: Gst) -> Reply
     ensures { λ r. ⌜ answerOf r ≡ candidateAnswer (svn .0) kind cop (mack .wn .0) (mack .tow .0) (now (room .entry)) ⌝ }
 {
-    let allowed = entry::cop_allowed(cop);
-    let known = entry::kind_known(kind);
+    let allowed = limits::cop_allowed(cop);
+    let known = limits::kind_known(kind);
     match tags::candidate_place(room, svn, kind, cop, mack, allowed, known) {
         Place::At(_) => Reply::Done,
         Place::Refused(why) => Reply::Refused(why),
@@ -137,8 +137,8 @@ pub fn candidate(room: &[u8], svn: Svn, kind: u8, cop: u8, mack: Gst) -> Reply
 pub fn candidate_data(room: &[u8], svn: Svn, kind: u8, cop: u8, mack: Gst) -> &[u8]
     ensures { λ r. ⌜ now r ≡ candidateData (svn .0) kind cop (mack .wn .0) (mack .tow .0) (now (room .entry)) ⌝ }
 {
-    let allowed = entry::cop_allowed(cop);
-    let known = entry::kind_known(kind);
+    let allowed = limits::cop_allowed(cop);
+    let known = limits::kind_known(kind);
     match tags::candidate_place(room, svn, kind, cop, mack, allowed, known) {
         Place::At(at) => tags::data_of(room, at, kind == tags::TIMING),
         Place::Refused(_) => &room[0..0],

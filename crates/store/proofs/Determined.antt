@@ -5,16 +5,6 @@ use denote.Triple.Clauses.{AtExit}
 use contract.Lifetimes.{Lfts}
 use Rattle.store.proofs.is_store.Reads as is-store-reads
 use Rattle.store.proofs.is_store.Kinds as is-store-kinds
-use Rattle.store.proofs.sizes_allowed.Reads as sizes-allowed-reads
-use Rattle.store.proofs.sizes_allowed.Kinds as sizes-allowed-kinds
-
-pub sizes-allowed-determined :
-    (κs : Lfts 0)
-    (a : Dens κs sizes-allowed-kinds.ps)
-    (r r' : resT sizes-allowed-kinds.r κs .Denot)
-    (e e' : AtExit (endedOf 0 sizes-allowed-kinds.ps sizes-allowed-kinds.r) κs)
-    → sizes-allowed-reads.Post κs a r e → sizes-allowed-reads.Post κs a r' e' → r ≡ r'
-sizes-allowed-determined κs a r r' e e' p q = p ∙ sym q
 
 pub is-store-determined :
     (κs : Lfts 1)

@@ -10,11 +10,9 @@ ghost use Rattle.paper.specs.Parts.{allParts};
 ghost use Rattle.paper.specs.Record.{Family, size, satellite, count};
 ghost use Rattle.paper.specs.Room.{slotSize, rowSize, roomSize};
 ghost use Rattle.store.specs.Slot.{isEmpty, isShared, isPlain};
-ghost use Rattle.paper.specs.Store.{sizesAllowed, headerInRange, headerZeros, recordAllowed, slotAllowed, markAllowed, subframeAllowed, blankAllowed, rowAllowed, isStore};
+ghost use Rattle.paper.specs.Store.{headerInRange, headerZeros, recordAllowed, slotAllowed, markAllowed, subframeAllowed, blankAllowed, rowAllowed, isStore};
 use layout::HEADER;
-use layout::MOST_ROWS;
 use layout::MOST_SATELLITES;
-use layout::MOST_SLOTS;
 use layout::ROW_HEAD;
 use layout::SLOT;
 use layout::TIMING_AT;
@@ -24,27 +22,11 @@ const SUBFRAME_SECONDS: u32 = 30;
 
 const LAST_SUBFRAME: u32 = 604770;
 
-// "D or N outside its range": whether neither is. The test of a fresh store too.
-pub fn sizes_allowed(d: u8, n: u8) -> bool
-    ensures { λ r. ⌜ r ≡ sizesAllowed d n ⌝ }
-{
-    if d < 1 {
-        return false;
-    }
-    if d > MOST_ROWS {
-        return false;
-    }
-    if n < 1 {
-        return false;
-    }
-    n <= MOST_SLOTS
-}
-
 fn header_in_range(room: &[u8]) -> bool
     requires { ⌜ 8 ≤ length (now room) ⌝ }
     ensures { λ r. ⌜ r ≡ headerInRange (now (room .entry)) ⌝ }
 {
-    if !sizes_allowed(room[0], room[1]) {
+    if !limits::sizes_allowed(room[0], room[1]) {
         return false;
     }
     room[2] < room[0]

@@ -14,24 +14,10 @@ use Rattle.tags.specs.declared.Place.{Place}
 use Rattle.tags.specs.declared.Place.the-variants.{At, Refused}
 use Rattle.tags.proofs.candidate_place.Reads as place
 use Rattle.tags.proofs.candidate_place.Kinds as place-kinds
-use Rattle.tags.proofs.tag_allowed.Reads as allowed
-use Rattle.tags.proofs.tag_allowed.Kinds as allowed-kinds
-use Rattle.tags.proofs.tag_known.Reads as known
-use Rattle.tags.proofs.tag_known.Kinds as known-kinds
 use Rattle.tags.proofs.data_of.Reads as shown
 use Rattle.tags.proofs.data_of.Kinds as shown-kinds
 use Rattle.tags.proofs.accept.Reads as accept
 use Rattle.tags.proofs.accept.Kinds as accept-kinds
-
-pub tag-allowed-determined :
-    (κs : Lfts 0) (a : Dens κs allowed-kinds.ps) (r r' : resT allowed-kinds.r κs .Denot)
-    (e e' : AtExit (endedOf 0 allowed-kinds.ps allowed-kinds.r) κs) → allowed.Post κs a r e → allowed.Post κs a r' e' → r ≡ r'
-tag-allowed-determined κs a r r' e e' p q = p ∙ sym q
-
-pub tag-known-determined :
-    (κs : Lfts 0) (a : Dens κs known-kinds.ps) (r r' : resT known-kinds.r κs .Denot)
-    (e e' : AtExit (endedOf 0 known-kinds.ps known-kinds.r) κs) → known.Post κs a r e → known.Post κs a r' e' → r ≡ r'
-tag-known-determined κs a r r' e e' p q = p ∙ sym q
 
 pub data-of-determined :
     (κs : Lfts 1) (a : Dens κs shown-kinds.ps) (r r' : resT shown-kinds.r κs .Denot)

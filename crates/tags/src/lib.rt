@@ -1,7 +1,7 @@
 // "What a tag does": where its candidate lies or why there is none, and what an accepted tag leaves. The refusals come in the
 // paper's order.
 ghost use mathlib.Core.Path.{_≡_};
-ghost use mathlib.Core.Bool.{true, _&&_};
+ghost use mathlib.Core.Bool.{true};
 ghost use mathlib.Core.List.{[], _∷_};
 ghost use Prim.Native.Nat.{_+_, _≤_};
 ghost use lib.ListN.{length};
@@ -9,7 +9,7 @@ ghost use Rattle.paper.specs.Number.{answer};
 ghost use Rattle.paper.specs.Parts.{part};
 ghost use Rattle.paper.specs.Record.{familyIf, size, dataAt, dataBytes, satellite};
 ghost use Rattle.paper.specs.Store.{isStore};
-ghost use Rattle.paper.specs.Tag.{familyOf, kindKnown, copAllowed, lengthAllowed, statusKnown, givenAgrees, tagged, takenBy};
+ghost use Rattle.paper.specs.Tag.{familyOf, givenAgrees, tagged, takenBy};
 ghost use Rattle.paper.specs.Answer.{roomFor};
 ghost use Rattle.paper.proofs.Views.{Facts};
 ghost use Rattle.tags.specs.Place.{Placed, Sought, taggedAnswer, acceptedNumber};
@@ -36,26 +36,6 @@ pub enum Place {
 pub enum Tagged {
     Taken(u32),
     Refused(Refusal),
-}
-
-// 8: COP or tag length not allowed
-pub fn tag_allowed(cop: u8, bits: u8) -> bool
-    ensures { λ r. ⌜ r ≡ (copAllowed cop && lengthAllowed bits) ⌝ }
-{
-    if !entry::cop_allowed(cop) {
-        return false;
-    }
-    entry::length_allowed(bits)
-}
-
-// 9: kind or status unknown
-pub fn tag_known(kind: u8, status: u8) -> bool
-    ensures { λ r. ⌜ r ≡ (kindKnown kind && statusKnown status) ⌝ }
-{
-    if !entry::kind_known(kind) {
-        return false;
-    }
-    entry::status_known(status)
 }
 
 // "16, 10": the MACK's time less 30 s is known here
@@ -153,7 +133,7 @@ pub fn accept(
     if !verdict {
         return Tagged::Refused(Refusal::VerdictNo);
     }
-    if !entry::status_adds(status) {
+    if !limits::status_adds(status) {
         return Tagged::Refused(Refusal::StatusAddsNothing);
     }
     let d = rows::wide(room[0]);

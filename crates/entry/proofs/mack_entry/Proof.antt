@@ -5,7 +5,7 @@ use mathlib.Core.Path.{_≡_, refl, sym, ap, _∙_}
 use mathlib.Core.Bool.{Bool, true, false}
 use mathlib.Core.List.{[]}
 use Prim.Native.Nat.{ℕ}
-use Rattle.entry.proofs.Order.{stop, pass, no-other-length}
+use Rattle.entry.proofs.Order.{stop, pass}
 use Rattle.entry.specs.Mack.{mackNumber}
 use Rattle.entry.proofs.mack_entry.Statement.{statement}
 use Rattle.entry.proofs.mack_entry.Tie as tie

@@ -1,13 +1,7 @@
 -- `kind_known` tests the three kinds one after the other.
-use native.Mathlib.Omega.{arith}
-use borrow.Author.Tests.{lt-ltb, le-ltb, le-leb, lt-leb, eq-eqb, ne-eqb, not-true, not-false}
-use mathlib.Core.Path.{_≡_, refl, sym, ap, _∙_}
-use mathlib.Core.Bool.{Bool, true, false}
-use mathlib.Core.List.{[]}
-use Prim.Native.Nat.{ℕ}
-use Rattle.entry.proofs.Order.{stop, pass, no-other-length}
-use Rattle.entry.proofs.kind_known.Statement.{statement}
-use Rattle.entry.proofs.kind_known.Tie as tie
+use borrow.Author.Tests.{eq-eqb, ne-eqb}
+use Rattle.limits.proofs.kind_known.Statement.{statement}
+use Rattle.limits.proofs.kind_known.Tie as tie
 
 returns : tie.Need-returns
 returns c = rw (eq-eqb _ _ (c .if1 .taken))

@@ -1,13 +1,8 @@
 -- `tag_allowed` tests the COP and then the length.
-use native.Mathlib.Omega.{arith}
-use borrow.Author.Needs.{needs}
-use borrow.Author.Tests.{eq-eqb, ne-eqb, not-true, not-false}
-use mathlib.Core.Path.{_≡_, refl, sym, ap, _∙_}
-use mathlib.Core.Bool.{Bool, true, false}
-use mathlib.Core.List.{List, []}
-use Prim.Native.Nat.{ℕ, _+_, _-_}
-use Rattle.tags.proofs.tag_allowed.Statement.{statement}
-use Rattle.tags.proofs.tag_allowed.Tie as tie
+use borrow.Author.Tests.{not-true, not-false}
+use mathlib.Core.Path.{sym, _∙_}
+use Rattle.limits.proofs.tag_allowed.Statement.{statement}
+use Rattle.limits.proofs.tag_allowed.Tie as tie
 
 cop-allowed-requires : tie.Need-cop-allowed-requires
 cop-allowed-requires c κs = tt

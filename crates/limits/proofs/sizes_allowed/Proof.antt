@@ -1,7 +1,7 @@
--- `store::sizes_allowed` meets its contract: each `return` is the test that its branch decided.
+-- `sizes_allowed` meets its contract: each `return` is the test that its branch decided.
 use borrow.Author.Tests.{le-leb, lt-leb}
-use Rattle.store.proofs.sizes_allowed.Statement.{statement}
-use Rattle.store.proofs.sizes_allowed.Tie as tie
+use Rattle.limits.proofs.sizes_allowed.Statement.{statement}
+use Rattle.limits.proofs.sizes_allowed.Tie as tie
 
 returns : tie.Need-returns
 returns c = simp (lt-leb _ _ (c .if1 .taken))

@@ -1,14 +1,8 @@
 -- `length_allowed` tests the five lengths one after the other.
-use native.Mathlib.Omega.{arith}
-use borrow.Author.Tests.{lt-ltb, le-ltb, le-leb, lt-leb, eq-eqb, ne-eqb, not-true, not-false}
-use mathlib.Core.Path.{_≡_, refl, sym, ap, _∙_}
-use mathlib.Core.Bool.{Bool, true, false}
-use mathlib.Core.List.{[]}
-use Prim.Native.Nat.{ℕ}
-use Rattle.entry.proofs.Order.{stop, pass, no-other-length}
 use Rattle.paper.specs.Tag.{lengthAllowed}
-use Rattle.entry.proofs.length_allowed.Statement.{statement}
-use Rattle.entry.proofs.length_allowed.Tie as tie
+use Rattle.limits.proofs.Lengths.{no-other-length}
+use Rattle.limits.proofs.length_allowed.Statement.{statement}
+use Rattle.limits.proofs.length_allowed.Tie as tie
 
 returns : tie.Need-returns
 unfolding lengthAllowed

@@ -1,0 +1,61 @@
+-- The promises of `limits` are tight: any two answers that a contract permits are equal. Assumes nothing.
+use borrow.Fn.Kinds.{resT, endedOf, Dens}
+use denote.Triple.Clauses.{AtExit}
+use contract.Lifetimes.{Lfts}
+use mathlib.Core.Path.{_≡_, sym, _∙_}
+use Rattle.limits.proofs.sizes_allowed.Reads as sizes
+use Rattle.limits.proofs.sizes_allowed.Kinds as sizes-kinds
+use Rattle.limits.proofs.kind_known.Reads as kind
+use Rattle.limits.proofs.kind_known.Kinds as kind-kinds
+use Rattle.limits.proofs.cop_allowed.Reads as cop
+use Rattle.limits.proofs.cop_allowed.Kinds as cop-kinds
+use Rattle.limits.proofs.length_allowed.Reads as len
+use Rattle.limits.proofs.length_allowed.Kinds as len-kinds
+use Rattle.limits.proofs.status_known.Reads as status
+use Rattle.limits.proofs.status_known.Kinds as status-kinds
+use Rattle.limits.proofs.status_adds.Reads as adds
+use Rattle.limits.proofs.status_adds.Kinds as adds-kinds
+use Rattle.limits.proofs.tag_allowed.Reads as allowed
+use Rattle.limits.proofs.tag_allowed.Kinds as allowed-kinds
+use Rattle.limits.proofs.tag_known.Reads as known
+use Rattle.limits.proofs.tag_known.Kinds as known-kinds
+
+pub sizes-allowed-determined :
+    (κs : Lfts 0) (a : Dens κs sizes-kinds.ps) (r r' : resT sizes-kinds.r κs .Denot)
+    (e e' : AtExit (endedOf 0 sizes-kinds.ps sizes-kinds.r) κs) → sizes.Post κs a r e → sizes.Post κs a r' e' → r ≡ r'
+sizes-allowed-determined κs a r r' e e' p q = p ∙ sym q
+
+pub kind-known-determined :
+    (κs : Lfts 0) (a : Dens κs kind-kinds.ps) (r r' : resT kind-kinds.r κs .Denot)
+    (e e' : AtExit (endedOf 0 kind-kinds.ps kind-kinds.r) κs) → kind.Post κs a r e → kind.Post κs a r' e' → r ≡ r'
+kind-known-determined κs a r r' e e' p q = p ∙ sym q
+
+pub cop-allowed-determined :
+    (κs : Lfts 0) (a : Dens κs cop-kinds.ps) (r r' : resT cop-kinds.r κs .Denot)
+    (e e' : AtExit (endedOf 0 cop-kinds.ps cop-kinds.r) κs) → cop.Post κs a r e → cop.Post κs a r' e' → r ≡ r'
+cop-allowed-determined κs a r r' e e' p q = p ∙ sym q
+
+pub length-allowed-determined :
+    (κs : Lfts 0) (a : Dens κs len-kinds.ps) (r r' : resT len-kinds.r κs .Denot)
+    (e e' : AtExit (endedOf 0 len-kinds.ps len-kinds.r) κs) → len.Post κs a r e → len.Post κs a r' e' → r ≡ r'
+length-allowed-determined κs a r r' e e' p q = p ∙ sym q
+
+pub status-known-determined :
+    (κs : Lfts 0) (a : Dens κs status-kinds.ps) (r r' : resT status-kinds.r κs .Denot)
+    (e e' : AtExit (endedOf 0 status-kinds.ps status-kinds.r) κs) → status.Post κs a r e → status.Post κs a r' e' → r ≡ r'
+status-known-determined κs a r r' e e' p q = p ∙ sym q
+
+pub status-adds-determined :
+    (κs : Lfts 0) (a : Dens κs adds-kinds.ps) (r r' : resT adds-kinds.r κs .Denot)
+    (e e' : AtExit (endedOf 0 adds-kinds.ps adds-kinds.r) κs) → adds.Post κs a r e → adds.Post κs a r' e' → r ≡ r'
+status-adds-determined κs a r r' e e' p q = p ∙ sym q
+
+pub tag-allowed-determined :
+    (κs : Lfts 0) (a : Dens κs allowed-kinds.ps) (r r' : resT allowed-kinds.r κs .Denot)
+    (e e' : AtExit (endedOf 0 allowed-kinds.ps allowed-kinds.r) κs) → allowed.Post κs a r e → allowed.Post κs a r' e' → r ≡ r'
+tag-allowed-determined κs a r r' e e' p q = p ∙ sym q
+
+pub tag-known-determined :
+    (κs : Lfts 0) (a : Dens κs known-kinds.ps) (r r' : resT known-kinds.r κs .Denot)
+    (e e' : AtExit (endedOf 0 known-kinds.ps known-kinds.r) κs) → known.Post κs a r e → known.Post κs a r' e' → r ≡ r'
+tag-known-determined κs a r r' e e' p q = p ∙ sym q

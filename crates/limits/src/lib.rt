@@ -1,0 +1,99 @@
+// Which numbers a call takes: the sizes of a store, and the numbers that come with a tag. Each test is of its numbers alone.
+ghost use mathlib.Core.Path.{_≡_};
+ghost use mathlib.Core.Bool.{_&&_};
+ghost use Rattle.paper.specs.Store.{sizesAllowed};
+ghost use Rattle.paper.specs.Tag.{kindKnown, copAllowed, lengthAllowed, statusKnown, statusAdds};
+use layout::MOST_ROWS;
+use layout::MOST_SLOTS;
+
+// "D or N outside its range": whether neither is. The test of a fresh store too.
+pub fn sizes_allowed(d: u8, n: u8) -> bool
+    ensures { λ r. ⌜ r ≡ sizesAllowed d n ⌝ }
+{
+    if d < 1 {
+        return false;
+    }
+    if d > MOST_ROWS {
+        return false;
+    }
+    if n < 1 {
+        return false;
+    }
+    n <= MOST_SLOTS
+}
+
+// "kind (0 CED, 4 timing, 12 slow CED)"
+pub fn kind_known(kind: u8) -> bool
+    ensures { λ r. ⌜ r ≡ kindKnown kind ⌝ }
+{
+    if kind == 0 {
+        return true;
+    }
+    if kind == 4 {
+        return true;
+    }
+    kind == 12
+}
+
+// "COP 0 to 15"
+pub fn cop_allowed(cop: u8) -> bool
+    ensures { λ r. ⌜ r ≡ copAllowed cop ⌝ }
+{
+    cop <= 15
+}
+
+// "length 20, 24, 28, 32 or 40"
+pub fn length_allowed(bits: u8) -> bool
+    ensures { λ r. ⌜ r ≡ lengthAllowed bits ⌝ }
+{
+    if bits == 20 {
+        return true;
+    }
+    if bits == 24 {
+        return true;
+    }
+    if bits == 28 {
+        return true;
+    }
+    if bits == 32 {
+        return true;
+    }
+    bits == 40
+}
+
+// "status (0 reserved, 1 test, 2 operational, 3 don't use)"
+pub fn status_known(status: u8) -> bool
+    ensures { λ r. ⌜ r ≡ statusKnown status ⌝ }
+{
+    status <= 3
+}
+
+// whether a tag adds under this status: "18 status 0 or 3, nothing added"
+pub fn status_adds(status: u8) -> bool
+    ensures { λ r. ⌜ r ≡ statusAdds status ⌝ }
+{
+    if status == 1 {
+        return true;
+    }
+    status == 2
+}
+
+// 8: COP or tag length not allowed
+pub fn tag_allowed(cop: u8, bits: u8) -> bool
+    ensures { λ r. ⌜ r ≡ (copAllowed cop && lengthAllowed bits) ⌝ }
+{
+    if !cop_allowed(cop) {
+        return false;
+    }
+    length_allowed(bits)
+}
+
+// 9: kind or status unknown
+pub fn tag_known(kind: u8, status: u8) -> bool
+    ensures { λ r. ⌜ r ≡ (kindKnown kind && statusKnown status) ⌝ }
+{
+    if !kind_known(kind) {
+        return false;
+    }
+    status_known(status)
+}
