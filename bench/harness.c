@@ -16,7 +16,7 @@ store *beside_fresh(uint8_t d, uint8_t n);
 void beside_feed(store *s, const uint8_t *word, uint8_t sat, uint16_t week, uint32_t time, uint8_t band);
 uint8_t beside_tag(store *s, uint8_t sat, uint8_t kind, uint8_t cop, uint8_t bits, uint16_t week, uint32_t time);
 beside_told beside_ask(const store *s, bool timing, uint8_t sat);
-void beside_room(const store *s, uint8_t *room, size_t bytes, size_t d, size_t n);
+void beside_room(const store *s, uint8_t *room, size_t bytes);
 
 enum { WEEK = 1177, CALLS = 8, MOST = DAWNSTOOK_ROOM_SIZE(16, 36) };
 static const uint8_t types[15] = {2, 4, 6, 10, 0, 0, 0, 0, 1, 3, 5, 0, 0, 0, 0};
@@ -35,7 +35,7 @@ static void dump(const char *side, const char *part, int calls) {
 #define NEED(fact) do { if (!(fact)) { fprintf(stderr, "harness: line %d: %s does not hold\n", __LINE__, #fact); exit(1); } } while (0)
 
 static void same_room(void) {
-    beside_room(rust, others, size, d, n);
+    beside_room(rust, others, size);
     NEED(memcmp(room, others, size) == 0);
 }
 

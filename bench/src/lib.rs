@@ -10,6 +10,7 @@ pub mod ecdsa {
 mod bitfields;
 mod gst;
 mod navmessage;
+mod state;
 mod storage;
 mod svn;
 mod tesla;
@@ -20,29 +21,11 @@ pub use gst::Gst;
 pub use svn::Svn;
 
 use bitfields::{Adkd, Mack, NmaStatus, Prnd, Tag};
-use core::marker::PhantomData;
 use navmessage::CollectNavMessage;
-use storage::{StaticStorage, StaticStorageTypenum};
+use state::{Size, write_room};
 use tesla::Key;
 use types::{BitSlice, InavBand};
-use typenum::{Prod, U1, Unsigned};
 use validation::Validated;
-
-#[derive(Debug, Clone)]
-pub struct Size<D, N>(PhantomData<(D, N)>);
-
-impl<D, N> StaticStorage for Size<D, N>
-where
-    D: StaticStorageTypenum + core::ops::Mul<N>,
-    N: Unsigned,
-    Prod<D, N>: StaticStorageTypenum,
-{
-    const NUM_SATS: usize = N::USIZE;
-    type NavMessageDepth = D;
-    type NavMessageDepthSats = Prod<D, N>;
-    type MackDepth = U1; // not used by navmessage.rs
-    type MackDepthSats = U1;
-}
 
 type Small = CollectNavMessage<Size<typenum::U3, typenum::U12>>;
 type Yard = CollectNavMessage<Size<typenum::U13, typenum::U36>>;
@@ -136,36 +119,10 @@ pub unsafe extern "C" fn beside_ask(store: *const Store, timing: bool, sat: u8) 
     }
 }
 
-fn write_record(room: &mut [u8], at: usize, (svn, count, ages, data): (Option<Svn>, u16, &[u8], &[u8])) -> usize {
-    room[at] = svn.map_or(0, u8::from);
-    room[at + 1..at + 3].copy_from_slice(&count.to_be_bytes());
-    room[at + 3..at + 3 + ages.len()].copy_from_slice(ages);
-    let from = at + 3 + ages.len();
-    room[from..from + data.len()].copy_from_slice(data);
-    from + data.len()
-}
-
 /// The Rust's state in the port's layout.
 #[unsafe(no_mangle)]
-pub unsafe extern "C" fn beside_room(store: *const Store, room: *mut u8, bytes: usize, d: usize, n: usize) {
+pub unsafe extern "C" fn beside_room(store: *const Store, room: *mut u8, bytes: usize) {
     let store = unsafe { &*store };
     let room = unsafe { core::slice::from_raw_parts_mut(room, bytes) };
-    room.fill(0);
-    (room[0], room[1]) = (d as u8, n as u8);
-    each!(store, s => {
-        room[2] = s.current_row() as u8;
-        let mut at = 8;
-        for row in 0..d {
-            if let Some(gst) = s.subframe(row) {
-                room[at] = 1;
-                room[at + 1..at + 3].copy_from_slice(&gst.wn().to_be_bytes());
-                room[at + 3..at + 7].copy_from_slice(&gst.tow().to_be_bytes());
-            }
-            at += 8;
-            for slot in 0..n {
-                at = write_record(room, at, s.ced(row, slot));
-                at = write_record(room, at, s.timing(row, slot));
-            }
-        }
-    })
+    each!(store, s => write_room(s, room))
 }

@@ -12,6 +12,7 @@ pub mod bitfields;
 mod gst;
 pub mod navmessage;
 pub mod sizes;
+mod state;
 pub mod storage;
 mod svn;
 pub mod tesla;

@@ -2,30 +2,13 @@
 
 use crate::bitfields::{Mack, NmaStatus};
 use crate::navmessage::{CollectNavMessage, NavMessageData};
-use crate::storage::{StaticStorage, StaticStorageTypenum};
+use crate::state::{self, Size};
+use crate::storage::StaticStorage;
 use crate::tesla::Key;
 use crate::types::{InavBand, InavWord};
 use crate::validation::Validated;
 use crate::{Gst, Svn};
-use std::marker::PhantomData;
-use typenum::{Prod, U1, Unsigned};
-
-/// The storage of depth D for N satellites.
-#[derive(Debug, Clone)]
-pub struct Size<D, N>(PhantomData<(D, N)>);
-
-impl<D, N> StaticStorage for Size<D, N>
-where
-    D: StaticStorageTypenum + core::ops::Mul<N>,
-    N: Unsigned,
-    Prod<D, N>: StaticStorageTypenum,
-{
-    const NUM_SATS: usize = N::USIZE;
-    type NavMessageDepth = D;
-    type NavMessageDepthSats = Prod<D, N>;
-    type MackDepth = U1; // not used by navmessage.rs
-    type MackDepthSats = U1;
-}
+use typenum::Unsigned;
 
 /// A store of some size.
 pub trait Store {
@@ -42,12 +25,7 @@ pub trait Store {
     fn get_ced_and_status(&self, svn: Svn) -> Option<NavMessageData<'_>>;
     fn get_timing_parameters(&self, svn: Svn) -> Option<NavMessageData<'_>>;
     fn reset_authbits(&mut self);
-    /// D and N.
-    fn size(&self) -> (usize, usize);
-    fn current_row(&self) -> usize;
-    fn subframe(&self, row: usize) -> Option<Gst>;
-    fn ced(&self, row: usize, slot: usize) -> (Option<Svn>, u16, &[u8], &[u8]);
-    fn timing(&self, row: usize, slot: usize) -> (Option<Svn>, u16, &[u8], &[u8]);
+    fn write_room(&self, room: &mut [u8]);
     fn counted(&self) -> usize;
     fn copied(&self) -> Box<dyn Store>;
 }
@@ -85,24 +63,8 @@ impl<S: StaticStorage + Clone + 'static> Store for CollectNavMessage<S> {
         self.reset_authbits()
     }
 
-    fn size(&self) -> (usize, usize) {
-        (S::NavMessageDepth::USIZE, S::NUM_SATS)
-    }
-
-    fn current_row(&self) -> usize {
-        self.current_row()
-    }
-
-    fn subframe(&self, row: usize) -> Option<Gst> {
-        self.subframe(row)
-    }
-
-    fn ced(&self, row: usize, slot: usize) -> (Option<Svn>, u16, &[u8], &[u8]) {
-        self.ced(row, slot)
-    }
-
-    fn timing(&self, row: usize, slot: usize) -> (Option<Svn>, u16, &[u8], &[u8]) {
-        self.timing(row, slot)
+    fn write_room(&self, room: &mut [u8]) {
+        state::write_room(self, room)
     }
 
     fn counted(&self) -> usize {
