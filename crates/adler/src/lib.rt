@@ -5,12 +5,6 @@ ghost use Rattle.adler.specs.Adler.{base, adlerOf};
 
 const BASE: u32 = 65521;
 
-fn wide(x: u8) -> u32
-    ensures { λ r. ⌜ (r ≡ x) × (r < 256) ⌝ }
-{
-    x as u32
-}
-
 // A difference is cheaper than a remainder, and a sum of two numbers below the base is below twice the base.
 fn reduced(sum: u32) -> u32
     requires { ⌜ sum < base + base ⌝ }
@@ -29,7 +23,7 @@ pub fn adler32(bytes: &[u8]) -> u32
     let mut s2: u32 = 0;
     let mut i = 0;
     while i < bytes.len() {
-        s1 = reduced(s1 + wide(bytes[i]));
+        s1 = reduced(s1 + numbers::as_u32(bytes[i]));
         s2 = reduced(s2 + s1);
         i += 1;
     }

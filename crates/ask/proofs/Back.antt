@@ -6,7 +6,7 @@ use lib.IntN.{pos, negℤ, _-ℤ_, +ℤ-idl}
 use mir.Facts.{toZ-ofZ, toZ-pos}
 use mir.Syntax.{w32}
 use mir.Val.{SFits, toZ, ofZ}
-use Rattle.gst.proofs.Integers.{fits, size-difference}
+use Rattle.signs.proofs.Integers.{fits, size-difference}
 
 module _ (a : ℕ) (h : a < 256) where
   pub age-read : toZ w32 a ≡ pos a

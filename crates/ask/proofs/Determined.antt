@@ -1,21 +1,11 @@
 -- The promises of `ask` are tight: any two answers that a contract permits are equal.
 use mathlib.Core.Path.{_≡_, sym, _∙_}
-use Rattle.ask.proofs.OneToOne.{asked-one}
+use Rattle.ask.proofs.OneToOne.{answered-one}
 use borrow.Fn.Kinds.{resT, endedOf, Dens}
 use denote.Triple.Clauses.{AtExit}
 use contract.Lifetimes.{Lfts}
-use Rattle.ask.proofs.answering.Reads as answering-reads
-use Rattle.ask.proofs.answering.Kinds as answering-kinds
 use Rattle.ask.proofs.ask.Reads as ask-reads
 use Rattle.ask.proofs.ask.Kinds as ask-kinds
-
-pub answering-determined :
-    (κs : Lfts 1)
-    (a : Dens κs answering-kinds.ps)
-    (r r' : resT answering-kinds.r κs .Denot)
-    (e e' : AtExit (endedOf 1 answering-kinds.ps answering-kinds.r) κs)
-    → answering-reads.Post κs a r e → answering-reads.Post κs a r' e' → r ≡ r'
-answering-determined κs a r r' e e' p q = p ∙ sym q
 
 pub ask-determined :
     (κs : Lfts 1)
@@ -23,4 +13,4 @@ pub ask-determined :
     (r r' : resT ask-kinds.r κs .Denot)
     (e e' : AtExit (endedOf 1 ask-kinds.ps ask-kinds.r) κs)
     → ask-reads.Post κs a r e → ask-reads.Post κs a r' e' → r ≡ r'
-ask-determined κs a r r' e e' p q = asked-one r r' (p .0 ∙ sym (q .0)) (p .1 ∙ sym (q .1))
+ask-determined κs a r r' e e' p q = answered-one r r' (p .0 ∙ sym (q .0)) (p .1 ∙ sym (q .1))

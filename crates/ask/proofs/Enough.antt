@@ -10,18 +10,21 @@ use lib.ListN.{length}
 use Rattle.paper.specs.Number.{Answer, done, refused, number}
 use Rattle.paper.specs.Parts.{part}
 use Rattle.paper.specs.Big.{be16}
-use Rattle.paper.specs.Record.{Family, CED, Timing, size, count}
-use Rattle.paper.specs.Room.{rowSize, depth, slots, current, rowAt}
+use Rattle.paper.specs.Record.{Family, countAt, size, count}
+use Rattle.paper.specs.Room.{headSize, rowSize, depth, slots, current, rowAt}
 use Rattle.paper.specs.Ask.{stepsBack, answeringRow, answeringRecord, someEnough, timeBefore}
 use Rattle.paper.proofs.Big.{be16-part}
 use Rattle.paper.proofs.First.{first-holds}
-use Rattle.paper.proofs.Views.{Facts, row-inside}
-use Rattle.rows.proofs.Where.{back-below}
+use Rattle.paper.proofs.Views.{row-inside}
+use Rattle.paper.proofs.Views.{back-below}
 use Rattle.lookup.specs.Candidate.{placeOf}
 use Rattle.lookup.proofs.Places.{place-inside, place-record}
-use Rattle.ask.specs.declared.Place.the-variants.{At, Nothing}
+use Rattle.ask.specs.declared.Answering.the-variants.{At, Nothing}
 use Rattle.ask.specs.Backward.{pick, placeBack, rowAnswering, slotAnswering, answeringAt}
-use Rattle.ask.specs.Asked.{askedNumber, askedAnswer, askedPlace}
+use Rattle.ask.specs.Answered.{askPlace}
+use Rattle.paper.specs.Answer.{askNumber, askAnswer}
+use Rattle.paper.specs.Satellite.{isSatellite}
+use Rattle.paper.specs.Store.{InRange, isStore}
 use Rattle.ask.proofs.Heads.{answersAt, time-head}
 
 module _ (f : Family) (sat : ℕ) (room : List ℕ) where
@@ -50,9 +53,10 @@ module _ (f : Family) (sat : ℕ) (room : List ℕ) where
       go true h q = let z : _≡_ {A = ℕ} 0 1 = cc in absurd (omega arith)
       go false h q = h
 
-  pub ask-none : answeringAt f sat room ≡ Nothing → (refused 12 ≡ askedAnswer f sat room) × (0 ≡ askedPlace f sat room)
-  unfolding askedAnswer askedPlace askedNumber
-  ask-none e = let h = no-some e in (rw h, rw h)
+  pub ask-none : answeringAt f sat room ≡ Nothing → isStore room ≡ true → isSatellite sat ≡ true
+      → (refused 12 ≡ askAnswer f sat room) × (0 ≡ askPlace f sat room)
+  unfolding askAnswer askPlace askNumber
+  ask-none e store known = let h = no-some e in (rw (store, known, h), rw (store, known, h))
 
   -- ---- a place: the row and the record that answer
   module _ (row at : ℕ) (e : answeringAt f sat room ≡ At row at) where
@@ -79,39 +83,36 @@ module _ (f : Family) (sat : ℕ) (room : List ℕ) where
     told-record = rw (shown .1 .1) (place-record f (rowAnswering f sat room) (slotAnswering f sat room) room slot-lt)
 
     -- and its row's subframe is the paper's
-    told-time : timeBefore f (part row 8 room) (part at (size f) room) ≡ timeBefore f (answeringRow f sat room) (answeringRecord f sat room)
+    told-time : timeBefore f (part row headSize room) (part at (size f) room) ≡ timeBefore f (answeringRow f sat room) (answeringRecord f sat room)
     unfolding answeringRow
     told-time = rw (told-record, shown .1 .0) (time-head f (rowAt (slots room) (rowAnswering f sat room)) (rowSize (slots room)) room (answeringRecord f sat room) (omega arith))
 
-    told-count : be16 room (at + 1) ≡ count (answeringRecord f sat room)
-    told-count = sym (be16-part at (size f) room 1 (three f)) ∙ ap count told-record
-      where
-        three : (f : Family) → 1 + 2 ≤ size f
-        three CED = omega arith
-        three Timing = omega arith
+    told-count : be16 room (at + countAt) ≡ count (answeringRecord f sat room)
+    told-count = sym (be16-part at (size f) room countAt (omega arith)) ∙ ap count told-record
 
-    module _ (F : Facts room) where
+    module _ (F : InRange room) where
       row-lt : rowAnswering f sat room < depth room
       row-lt = back-below (depth room) (current room) (stepsBack f sat room) (F .inRing) steps
 
-      pub told-inside : (row + 8 ≤ length room) × (at + size f ≤ length room)
+      pub told-inside : (row + headSize ≤ length room) × (at + size f ≤ length room)
       told-inside = (
         rw (shown .1 .0) (omega (arith, row-inside room F (rowAnswering f sat room) row-lt)),
         rw (shown .1 .1) (place-inside f (rowAnswering f sat room) (slotAnswering f sat room) room slot-lt F row-lt),
       )
 
     -- the time refused, and told
-    pub ask-late : (t : Answer) → t ≡ timeBefore f (part row 8 room) (part at (size f) room) → eqb (number t) 0 ≡ false
-        → (refused 7 ≡ askedAnswer f sat room) × (0 ≡ askedPlace f sat room)
-    unfolding askedAnswer askedPlace askedNumber
-    ask-late t et k =
-        let late : eqb (number (timeBefore f (answeringRow f sat room) (answeringRecord f sat room))) 0 ≡ false =
-        ap (λ (x : Answer). eqb (number x) 0) (sym (et ∙ told-time)) ∙ k in
-        (rw (shown .0, late), rw (shown .0, late))
+    module _ (store : isStore room ≡ true) (known : isSatellite sat ≡ true) where
+      pub ask-late : (t : Answer) → t ≡ timeBefore f (part row headSize room) (part at (size f) room) → eqb (number t) 0 ≡ false
+          → (refused 7 ≡ askAnswer f sat room) × (0 ≡ askPlace f sat room)
+      unfolding askAnswer askPlace askNumber
+      ask-late t et k =
+          let late : eqb (number (timeBefore f (answeringRow f sat room) (answeringRecord f sat room))) 0 ≡ false =
+          ap (λ (x : Answer). eqb (number x) 0) (sym (et ∙ told-time)) ∙ k in
+          (rw (store, known, shown .0, late), rw (store, known, shown .0, late))
 
-    pub ask-told : (n w t : ℕ) → n ≡ be16 room (at + 1) → done (w ∷ t ∷ []) ≡ timeBefore f (part row 8 room) (part at (size f) room)
-        → (done (n ∷ w ∷ t ∷ []) ≡ askedAnswer f sat room) × (at ≡ askedPlace f sat room)
-    unfolding askedAnswer askedPlace askedNumber
-    ask-told n w t en et =
-        let time = et ∙ told-time in
-        (rw (shown .0, ← time, en, told-count), rw (shown .0, ← time) (shown .1 .1))
+      pub ask-told : (n w t : ℕ) → n ≡ be16 room (at + countAt) → done (w ∷ t ∷ []) ≡ timeBefore f (part row headSize room) (part at (size f) room)
+          → (done (n ∷ w ∷ t ∷ []) ≡ askAnswer f sat room) × (at ≡ askPlace f sat room)
+      unfolding askAnswer askPlace askNumber
+      ask-told n w t en et =
+          let time = et ∙ told-time in
+          (rw (store, known, shown .0, ← time, en, told-count), rw (store, known, shown .0, ← time) (shown .1 .1))

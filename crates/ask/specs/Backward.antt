@@ -7,15 +7,15 @@ use Rattle.paper.specs.Record.{Family}
 use Rattle.paper.specs.Room.{depth, slots, current, rowAt, rowOf}
 use Rattle.paper.specs.Ask.{enoughSlot, rowBack, stepsBack, someEnough}
 use Rattle.lookup.specs.Candidate.{placeOf}
-use Rattle.ask.specs.declared.Place.{Place}
-use Rattle.ask.specs.declared.Place.the-variants.{At, Nothing}
+use Rattle.ask.specs.declared.Answering.{Answering}
+use Rattle.ask.specs.declared.Answering.the-variants.{At, Nothing}
 
-abbrev pub pick : Bool → Place → Place → Place
+abbrev pub pick : Bool → Answering → Answering → Answering
 pick true a b = a
 pick false a b = b
 
 -- of the row j before the current one: where it starts, and its first record that answers
-unfoldable pub placeBack : Family → ℕ → ℕ → List ℕ → Place
+unfoldable pub placeBack : Family → ℕ → ℕ → List ℕ → Answering
 placeBack f sat j room =
     let r = rowBack (depth room) (current room) j in
     let i = enoughSlot f sat (slots room) (rowOf r room) in
@@ -28,7 +28,7 @@ rowAnswering f sat room = rowBack (depth room) (current room) (stepsBack f sat r
 abbrev pub slotAnswering : Family → ℕ → List ℕ → ℕ
 slotAnswering f sat room = enoughSlot f sat (slots room) (rowOf (rowAnswering f sat room) room)
 
-unfoldable pub answeringAt : Family → ℕ → List ℕ → Place
+unfoldable pub answeringAt : Family → ℕ → List ℕ → Answering
 answeringAt f sat room =
     pick (someEnough f sat room)
     (At (rowAt (slots room) (rowAnswering f sat room)) (placeOf f (rowAnswering f sat room) (slotAnswering f sat room) room))

@@ -1,2 +1,2 @@
 pub mod Backward
-pub mod Asked
+pub mod Answered

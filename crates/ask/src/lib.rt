@@ -1,57 +1,58 @@
 // Asking (document 01, "What asking does"): "From the current row backward through the ring, the first record of the satellite with
-// a count of at least 40", and its row's subframe less 30 s × its least age.
+// a count of at least 40", and its row's subframe less 30 s × its least age. `ask` is the one path of every asking.
 ghost use mathlib.Core.Path.{_≡_};
 ghost use Prim.Native.Nat.{_+_, _≤_, _<_};
 ghost use lib.Dec.{ltb};
 ghost use lib.IntN.{pos, negℤ};
 ghost use lib.ListN.{length};
 ghost use Rattle.paper.specs.Parts.{part};
-ghost use Rattle.paper.specs.Record.{familyIf, size, agesOf, least};
-ghost use Rattle.paper.specs.Room.{rowSize, depth};
+ghost use Rattle.paper.specs.Record.{familyIf, agesAt, size, agesOf, least};
+ghost use Rattle.paper.specs.Room.{headSize, rowSize, depth};
+ghost use Rattle.paper.specs.Store.{InRange};
 ghost use Rattle.paper.specs.Ask.{hasEnough, enoughSlot, stepsBack, timeBefore};
-ghost use Rattle.paper.proofs.Views.{Facts};
-ghost use Rattle.gst.specs.Answer.{answerOf as timeOf};
+ghost use Rattle.paper.specs.Answer.{askAnswer};
+ghost use Rattle.gst.specs.Answer.{timeAnswer};
 ghost use Rattle.lookup.specs.Found.{found};
 ghost use Rattle.ask.specs.Backward.{placeBack, answeringAt};
-ghost use Rattle.ask.specs.Asked.{answerOf, placeTold, askedAnswer, askedPlace};
+ghost use Rattle.ask.specs.Answered.{answeredAnswer, placeAnswered, askPlace};
 use gst::Gst;
 use gst::NewTime;
 use gst::Tow;
 use gst::Wn;
+use layout::TIME_AT;
+use layout::WEEK_AT;
 use lookup::Found;
+use records::AGES_AT;
+use records::COUNT_AT;
 use records::Ced;
+use records::SATELLITE_AT;
 use records::Timing;
+use refusals::Refusal;
+use svn::Svn;
 
 // "a count of at least 40"
 const LEAST_COUNT: u16 = 40;
 
-// The satellite and the count of a record of either kind.
-const RECORD_HEAD: usize = 3;
-
 // Where the row that answers and its record start in the room.
-pub enum Place {
+enum Answering {
     At(usize, usize),
     Nothing,
 }
 
-// What asking tells of a satellite.
-pub enum Asked {
-    // where its record starts in the room, its count, and the time
-    Told(usize, u16, Gst),
-    // 12: no record of the satellite has 40
-    NotEnough,
-    // 7: time arithmetic refused
-    OutOfTime,
+// What asking came to: where the record that answers starts in the room, its count and the time; or why there is none.
+pub enum Answered {
+    Record(usize, u16, Gst),
+    Refused(Refusal),
 }
 
 fn has_enough(head: &[u8], sat: u8) -> bool
-    requires { ⌜ 3 ≤ length (now head) ⌝ }
+    requires { ⌜ agesAt ≤ length (now head) ⌝ }
     ensures { λ r. ⌜ r ≡ hasEnough sat (now (head .entry)) ⌝ }
 {
-    if head[0] != sat {
+    if head[SATELLITE_AT] != sat {
         return false;
     }
-    numbers::read16(head, 1) >= LEAST_COUNT
+    numbers::read16(head, COUNT_AT) >= LEAST_COUNT
 }
 
 // The first slot of a row that answers.
@@ -65,7 +66,7 @@ fn enough_slot(row: &[u8], n: usize, timing: bool, sat: u8) -> Found
             return Found::Nothing;
         }
         let at = rows::record_start(timing, slot);
-        let e = at + RECORD_HEAD;
+        let e = at + AGES_AT;
         if has_enough(&row[at..e], sat) {
             break slot;
         }
@@ -86,21 +87,18 @@ fn row_answers(row: &[u8], n: usize, timing: bool, sat: u8) -> bool
 
 // How many rows back the first row that answers lies.
 fn steps_back(room: &[u8], timing: bool, sat: u8) -> Found
-    requires { ⌜ Facts (now room) ⌝ }
+    requires { ⌜ InRange (now room) ⌝ }
     ensures { λ r. ⌜ r ≡ found (depth (now (room .entry))) (stepsBack (familyIf timing) sat (now (room .entry))) ⌝ }
 {
-    let d = rows::wide(room[0]);
-    let n = rows::wide(room[1]);
-    let c = rows::wide(room[2]);
-    let size = rows::row_size(n);
+    let d = rows::depth(room);
+    let n = rows::slots(room);
+    let c = rows::current(room);
     let mut j: usize = 0;
     let first = loop {
         if j >= d {
             return Found::Nothing;
         }
-        let at = rows::row_start(n, rows::row_back(d, c, j));
-        let e = at + size;
-        if row_answers(&room[at..e], n, timing, sat) {
+        if row_answers(rows::row(room, rows::row_back(d, c, j)), n, timing, sat) {
             break j;
         }
         j += 1;
@@ -109,27 +107,26 @@ fn steps_back(room: &[u8], timing: bool, sat: u8) -> Found
 }
 
 // Where the row j before the current one and its first record that answers start.
-fn place_back(room: &[u8], j: usize, timing: bool, sat: u8) -> Place
-    requires { ⌜ Facts (now room) × (j < depth (now room)) ⌝ }
+fn place_back(room: &[u8], j: usize, timing: bool, sat: u8) -> Answering
+    requires { ⌜ InRange (now room) × (j < depth (now room)) ⌝ }
     ensures { λ r. ⌜ r ≡ placeBack (familyIf timing) sat j (now (room .entry)) ⌝ }
 {
-    let n = rows::wide(room[1]);
-    let r = rows::row_back(rows::wide(room[0]), rows::wide(room[2]), j);
-    let start = rows::row_start(n, r);
-    let e = start + rows::row_size(n);
-    let Found::At(slot) = enough_slot(&room[start..e], n, timing, sat) else {
-        return Place::Nothing;
+    let n = rows::slots(room);
+    let r = rows::row_back(rows::depth(room), rows::current(room), j);
+    let Found::At(slot) = enough_slot(rows::row(room, r), n, timing, sat) else {
+        return Answering::Nothing;
     };
-    Place::At(start, start + rows::record_start(timing, slot))
+    let start = rows::row_start(n, r);
+    Answering::At(start, start + rows::record_start(timing, slot))
 }
 
 // Where the row that answers and its record start; the order is the ring's, whether or not subframes fall.
-pub fn answering(room: &[u8], timing: bool, sat: u8) -> Place
-    requires { ⌜ Facts (now room) ⌝ }
+fn answering_at(room: &[u8], timing: bool, sat: u8) -> Answering
+    requires { ⌜ InRange (now room) ⌝ }
     ensures { λ r. ⌜ r ≡ answeringAt (familyIf timing) sat (now (room .entry)) ⌝ }
 {
     let Found::At(j) = steps_back(room, timing, sat) else {
-        return Place::Nothing;
+        return Answering::Nothing;
     };
     place_back(room, j, timing, sat)
 }
@@ -154,11 +151,12 @@ fn subframes_back(age: u8) -> i32
 
 // "its row's subframe less 30 s × its least age", for the row and the record that start there
 fn time_before(room: &[u8], row: usize, at: usize, timing: bool) -> NewTime
-    requires { ⌜ (row + 8 ≤ length (now room)) × (at + size (familyIf timing) ≤ length (now room)) ⌝ }
-    ensures { λ r. ⌜ timeOf r ≡ timeBefore (familyIf timing) (part row 8 (now (room .entry))) (part at (size (familyIf timing)) (now (room .entry))) ⌝ }
+    requires { ⌜ (row + headSize ≤ length (now room)) × (at + size (familyIf timing) ≤ length (now room)) ⌝ }
+    ensures { λ r. ⌜ timeAnswer r
+        ≡ timeBefore (familyIf timing) (part row headSize (now (room .entry))) (part at (size (familyIf timing)) (now (room .entry))) ⌝ }
 {
-    let week = numbers::read16(room, row + 1);
-    let time = numbers::read32(room, row + 3);
+    let week = numbers::read16(room, row + WEEK_AT);
+    let time = numbers::read32(room, row + TIME_AT);
     let back = subframes_back(least_age(room, at, timing));
     let subframe = Gst {
         wn: Wn(week),
@@ -167,16 +165,22 @@ fn time_before(room: &[u8], row: usize, at: usize, timing: bool) -> NewTime
     subframe.add_subframes(back)
 }
 
-// What a store tells of a satellite: 12, 7, or the record's place, its count and the time.
-pub fn ask(room: &[u8], timing: bool, sat: u8) -> Asked
-    requires { ⌜ Facts (now room) ⌝ }
-    ensures { λ r. ⌜ (answerOf r ≡ askedAnswer (familyIf timing) sat (now (room .entry))) × (placeTold r ≡ askedPlace (familyIf timing) sat (now (room .entry))) ⌝ }
+// "Asking 3, 4, 12, 7"
+pub fn ask(room: &[u8], timing: bool, svn: Svn) -> Answered
+    ensures { λ r. ⌜ (answeredAnswer r ≡ askAnswer (familyIf timing) (svn .0) (now (room .entry)))
+        × (placeAnswered r ≡ askPlace (familyIf timing) (svn .0) (now (room .entry))) ⌝ }
 {
-    let Place::At(row, at) = answering(room, timing, sat) else {
-        return Asked::NotEnough;
+    if !store::is_store(room) {
+        return Answered::Refused(Refusal::NotAStore);
+    }
+    if !svn.is_satellite() {
+        return Answered::Refused(Refusal::NoSatellite);
+    }
+    let Answering::At(row, at) = answering_at(room, timing, svn.0) else {
+        return Answered::Refused(Refusal::NotEnough);
     };
     let NewTime::Time(time) = time_before(room, row, at, timing) else {
-        return Asked::OutOfTime;
+        return Answered::Refused(Refusal::OutOfTime);
     };
-    Asked::Told(at, numbers::read16(room, at + 1), time)
+    Answered::Record(at, numbers::read16(room, at + COUNT_AT), time)
 }

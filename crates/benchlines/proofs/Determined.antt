@@ -4,21 +4,21 @@ use borrow.Fn.Kinds.{resT, endedOf, Dens}
 use denote.Triple.Clauses.{AtExit}
 use contract.Lifetimes.{Lfts}
 use Rattle.text.proofs.Puts.{put-one}
-use Rattle.lines.proofs.OneToOne.{told-one}
-use Rattle.benchlines.proofs.told.Reads as told-reads
-use Rattle.benchlines.proofs.told.Kinds as told-kinds
+use Rattle.lines.proofs.OneToOne.{outcome-one}
+use Rattle.benchlines.proofs.outcome.Reads as outcome-reads
+use Rattle.benchlines.proofs.outcome.Kinds as outcome-kinds
 use Rattle.benchlines.proofs.part.Reads as part-reads
 use Rattle.benchlines.proofs.part.Kinds as part-kinds
 use Rattle.benchlines.proofs.answer.Reads as answer-reads
 use Rattle.benchlines.proofs.answer.Kinds as answer-kinds
 
-pub told-determined :
+pub outcome-determined :
     (κs : Lfts 2)
-    (a : Dens κs told-kinds.ps)
-    (r r' : resT told-kinds.r κs .Denot)
-    (e e' : AtExit (endedOf 2 told-kinds.ps told-kinds.r) κs)
-    → told-reads.Post κs a r e → told-reads.Post κs a r' e' → (r ≡ r') × (e .0 .now ≡ e' .0 .now)
-told-determined κs a r r' e e' p q = (told-one r r' (p .0 ∙ sym (q .0)), p .1 ∙ sym (q .1))
+    (a : Dens κs outcome-kinds.ps)
+    (r r' : resT outcome-kinds.r κs .Denot)
+    (e e' : AtExit (endedOf 2 outcome-kinds.ps outcome-kinds.r) κs)
+    → outcome-reads.Post κs a r e → outcome-reads.Post κs a r' e' → (r ≡ r') × (e .0 .now ≡ e' .0 .now)
+outcome-determined κs a r r' e e' p q = (outcome-one r r' (p .0 ∙ sym (q .0)), p .1 ∙ sym (q .1))
 
 pub part-determined :
     (κs : Lfts 2)

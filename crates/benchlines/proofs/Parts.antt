@@ -16,28 +16,28 @@ use Rattle.lines.specs.declared.Kind.the-variants.{Word, Tag, Reset, Ced, Timin
 use Rattle.benchlines.specs.Records.{wordCall, tagCallOn, recordPart, recordRoom}
 
 -- the data of a record, if the number is 0
-data-short : (k : ℕ) (f : Family) (rec : List ℕ) → length (partFor k (dataOf f rec)) ≤ 69
+data-short : (k : ℕ) (f : Family) (rec : List ℕ) → length (partFor k (dataOf f rec)) ≤ dataBytes CED
 data-short k f rec = go (eqb k 0)
   where
-    bytes : (f : Family) → dataBytes f ≤ 69
+    bytes : (f : Family) → dataBytes f ≤ dataBytes CED
     bytes CED = omega arith
     bytes TIMING = omega arith
 
-    go : (b : Bool) → length (cond b (dataOf f rec) []) ≤ 69
+    go : (b : Bool) → length (cond b (dataOf f rec) []) ≤ dataBytes CED
     go true = simp length-take (omega (arith, bytes f))
     go false = omega arith
 
 -- a candidate's data
-pub candidate-short : (sat kind cop w t : ℕ) (room : List ℕ) → length (candidateData sat kind cop w t room) ≤ 69
+pub candidate-short : (sat kind cop w t : ℕ) (room : List ℕ) → length (candidateData sat kind cop w t room) ≤ dataBytes CED
 unfolding candidateData
 candidate-short sat kind cop w t room =
     data-short (candidateNumber sat kind cop w t room) (familyOf kind) (candidateRecord (familyOf kind) sat w t room)
 
-ask-short : (f : Family) (sat : ℕ) (room : List ℕ) → length (askData f sat room) ≤ 69
+ask-short : (f : Family) (sat : ℕ) (room : List ℕ) → length (askData f sat room) ≤ dataBytes CED
 unfolding askData
 ask-short f sat room = data-short (askNumber f sat room) f (answeringRecord f sat room)
 
-pub part-short : (kind : Kind) (body room : List ℕ) → length (recordPart kind body room) ≤ 69
+pub part-short : (kind : Kind) (body room : List ℕ) → length (recordPart kind body room) ≤ dataBytes CED
 unfolding wordCall tagCallOn partTo
 part-short Word body room = omega arith
 part-short Tag body room = omega arith

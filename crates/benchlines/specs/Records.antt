@@ -7,6 +7,7 @@ use lib.Dec.{eqb}
 use Rattle.paper.specs.Number.{Answer, refused}
 use Rattle.paper.specs.Parts.{part}
 use Rattle.paper.specs.Big.{be16, be32}
+use Rattle.paper.specs.Word.{wordBytes}
 use Rattle.paper.specs.Record.{CED, Timing as TIMING}
 use Rattle.paper.specs.Answer.{candidateData}
 use Rattle.paper.specs.Call.{Call, freshCall, feedCall, tagCall, askCall, resetCall, answerTo, partTo, run}
@@ -16,7 +17,7 @@ use Rattle.lines.specs.Lines.{lineOf}
 
 -- "1 word: satellite, band, week (2), time (4), 16 bytes"
 unfoldable pub wordCall : List ℕ → Call
-wordCall body = feedCall (part 8 16 body) (getD body 0 0) (be16 body 2) (be32 body 4) (getD body 1 0)
+wordCall body = feedCall (part 8 wordBytes body) (getD body 0 0) (be16 body 2) (be32 body 4) (getD body 1 0)
 
 -- "the candidate's data", of a tag's satellite, kind, COP, week and time
 unfoldable pub candidateOn : List ℕ → List ℕ → List ℕ

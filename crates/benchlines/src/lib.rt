@@ -2,9 +2,11 @@
 use gst::Gst;
 use gst::Tow;
 use gst::Wn;
+use limits::WORD_BYTES;
 use lines::Kind;
-use lines::Told;
+use lines::Outcome;
 use navmessage::Asked;
+use records::Ced;
 use refusals::Reply;
 use svn::Svn;
 use tags::Tagged;
@@ -12,14 +14,21 @@ ghost use mathlib.Core.Path.{_≡_};
 ghost use Prim.Native.Nat.{_+_, _≤_};
 ghost use lib.ListN.{length, getD, take};
 ghost use Rattle.paper.specs.Big.{be16, be32};
+ghost use Rattle.paper.specs.Record.{CED, dataBytes};
 ghost use Rattle.paper.specs.Call.{freshCall, resetCall, answerTo, roomAfter};
-ghost use Rattle.refusals.specs.Reply.{answerOf};
-ghost use Rattle.tags.specs.Place.{taggedAnswer};
+ghost use Rattle.refusals.specs.Reply.{replyAnswer};
+ghost use Rattle.tags.specs.Candidates.{taggedAnswer};
 ghost use Rattle.navmessage.specs.Asked.{askedAnswer};
-ghost use Rattle.lines.specs.Lines.{toldAnswer};
+ghost use Rattle.lines.specs.Lines.{outcomeAnswer, longestLine};
 ghost use Rattle.benchlines.specs.Records.{wordCall, candidateOn, tagCallOn, recordAnswer, recordPart, recordRoom, recordLine};
+ghost use Rattle.lines.specs.declared.Kind.the-variants.{Word, Tag, Fresh};
 ghost use Rattle.lines.specs.Kinds.{bodyLength};
 ghost use Rattle.text.specs.Text.{Put};
+
+// where a word's bytes start in its body, behind satellite, band, week and time
+const WORD_AT: usize = 8;
+
+const WORD_END: usize = WORD_AT + WORD_BYTES;
 
 // bench only: unknown kind byte
 const UNKNOWN_KIND: u8 = 13;
@@ -34,49 +43,51 @@ fn time(body: &[u8], at: usize) -> Gst
     Gst { wn, tow }
 }
 
-fn replied(reply: Reply) -> Told
-    ensures { λ r. ⌜ toldAnswer r ≡ answerOf reply ⌝ }
+fn replied(reply: Reply) -> Outcome
+    ensures { λ r. ⌜ outcomeAnswer r ≡ replyAnswer reply ⌝ }
 {
     match reply {
-        Reply::Done => Told::Done,
-        Reply::Refused(why) => Told::Refused(refusals::number(why)),
+        Reply::Done => Outcome::Done,
+        Reply::Refused(why) => Outcome::Refused(refusals::number(why)),
     }
 }
 
-fn tagged(answer: Tagged) -> Told
-    ensures { λ r. ⌜ toldAnswer r ≡ taggedAnswer answer ⌝ }
+fn tagged(answer: Tagged) -> Outcome
+    ensures { λ r. ⌜ outcomeAnswer r ≡ taggedAnswer answer ⌝ }
 {
     match answer {
-        Tagged::Taken(records) => Told::Total(records),
-        Tagged::Refused(why) => Told::Refused(refusals::number(why)),
+        Tagged::Taken(records) => Outcome::Total(records),
+        Tagged::Refused(why) => Outcome::Refused(refusals::number(why)),
     }
 }
 
-fn asked(answer: Asked) -> Told
-    ensures { λ r. ⌜ toldAnswer r ≡ askedAnswer answer ⌝ }
+fn asked(answer: Asked) -> Outcome
+    ensures { λ r. ⌜ outcomeAnswer r ≡ askedAnswer answer ⌝ }
 {
     match answer {
         Asked::Found(reading) => {
             let gst = reading.gst;
-            Told::Reading(reading.authbits, gst)
+            Outcome::Reading(reading.authbits, gst)
         }
-        Asked::Refused(why) => Told::Refused(refusals::number(why)),
+        Asked::Refused(why) => Outcome::Refused(refusals::number(why)),
     }
 }
 
 // Satellite, band, week (2), time (4), 16 bytes.
-fn word(room: &mut [u8], body: &[u8]) -> Told
-    requires { ⌜ length (now body) ≡ 24 ⌝ }
-    ensures { λ r. ⌜ (toldAnswer r ≡ answerTo (wordCall (now (body .entry))) (now (room .entry))) × (now (room .exit) ≡ roomAfter (wordCall (now (body .entry))) (now (room .entry))) ⌝ }
+fn word(room: &mut [u8], body: &[u8]) -> Outcome
+    requires { ⌜ length (now body) ≡ bodyLength Word ⌝ }
+    ensures { λ r. ⌜ (outcomeAnswer r ≡ answerTo (wordCall (now (body .entry))) (now (room .entry)))
+        × (now (room .exit) ≡ roomAfter (wordCall (now (body .entry))) (now (room .entry))) ⌝ }
 {
     let gst = time(body, 2);
-    replied(navmessage::feed(room, &body[8..24], Svn(body[0]), gst, body[1]))
+    replied(navmessage::feed(room, &body[WORD_AT..WORD_END], Svn(body[0]), gst, body[1]))
 }
 
 // The data of a tag's candidate, copied: a tag is lent the room it lies in. How many bytes there are comes back.
 fn candidate(room: &[u8], body: &[u8], given: &mut [u8]) -> usize
-    requires { ⌜ (length (now body) ≡ 12) × (length (now given) ≡ 69) ⌝ }
-    ensures { λ r. ⌜ (take r (now (given .exit)) ≡ candidateOn (now (body .entry)) (now (room .entry))) × (r ≤ length (now (given .exit))) ⌝ }
+    requires { ⌜ (length (now body) ≡ bodyLength Tag) × (length (now given) ≡ dataBytes CED) ⌝ }
+    ensures { λ r. ⌜ (take r (now (given .exit)) ≡ candidateOn (now (body .entry)) (now (room .entry)))
+        × (r ≤ length (now (given .exit))) ⌝ }
 {
     let gst = time(body, 6);
     text::put_bytes(
@@ -87,11 +98,12 @@ fn candidate(room: &[u8], body: &[u8], given: &mut [u8]) -> usize
 }
 
 // Satellite, kind, COP, length, status, verdict (0 is no), week (2), time (4).
-fn tag(room: &mut [u8], body: &[u8]) -> Told
-    requires { ⌜ length (now body) ≡ 12 ⌝ }
-    ensures { λ r. ⌜ (toldAnswer r ≡ answerTo (tagCallOn (now (body .entry)) (now (room .entry))) (now (room .entry))) × (now (room .exit) ≡ roomAfter (tagCallOn (now (body .entry)) (now (room .entry))) (now (room .entry))) ⌝ }
+fn tag(room: &mut [u8], body: &[u8]) -> Outcome
+    requires { ⌜ length (now body) ≡ bodyLength Tag ⌝ }
+    ensures { λ r. ⌜ (outcomeAnswer r ≡ answerTo (tagCallOn (now (body .entry)) (now (room .entry))) (now (room .entry)))
+        × (now (room .exit) ≡ roomAfter (tagCallOn (now (body .entry)) (now (room .entry))) (now (room .entry))) ⌝ }
 {
-    let mut given = [0u8; 69];
+    let mut given = [0u8; Ced::BYTES];
     let n = candidate(room, body, &mut given);
     let gst = time(body, 6);
     let verdict = body[5] != 0;
@@ -108,16 +120,17 @@ fn tag(room: &mut [u8], body: &[u8]) -> Told
     ))
 }
 
-fn reset(room: &mut [u8]) -> Told
-    ensures { λ r. ⌜ (toldAnswer r ≡ answerTo resetCall (now (room .entry))) × (now (room .exit) ≡ roomAfter resetCall (now (room .entry))) ⌝ }
+fn reset(room: &mut [u8]) -> Outcome
+    ensures { λ r. ⌜ (outcomeAnswer r ≡ answerTo resetCall (now (room .entry))) × (now (room .exit) ≡ roomAfter resetCall (now (room .entry))) ⌝ }
 {
     replied(navmessage::reset_authbits(room))
 }
 
 // D, N.
-fn fresh(room: &mut [u8], body: &[u8]) -> Told
-    requires { ⌜ length (now body) ≡ 2 ⌝ }
-    ensures { λ r. ⌜ (toldAnswer r ≡ answerTo (freshCall (getD (now (body .entry)) 0 0) (getD (now (body .entry)) 1 0)) (now (room .entry))) × (now (room .exit) ≡ roomAfter (freshCall (getD (now (body .entry)) 0 0) (getD (now (body .entry)) 1 0)) (now (room .entry))) ⌝ }
+fn fresh(room: &mut [u8], body: &[u8]) -> Outcome
+    requires { ⌜ length (now body) ≡ bodyLength Fresh ⌝ }
+    ensures { λ r. ⌜ (outcomeAnswer r ≡ answerTo (freshCall (getD (now (body .entry)) 0 0) (getD (now (body .entry)) 1 0)) (now (room .entry)))
+        × (now (room .exit) ≡ roomAfter (freshCall (getD (now (body .entry)) 0 0) (getD (now (body .entry)) 1 0)) (now (room .entry))) ⌝ }
 {
     replied(navmessage::fresh(room, body[0], body[1]))
 }
@@ -133,9 +146,10 @@ fn satellite(body: &[u8]) -> Svn
 }
 
 // What a record's call answers, and the room after it.
-pub fn told(room: &mut [u8], kind: Kind, body: &[u8]) -> Told
+pub fn outcome(room: &mut [u8], kind: Kind, body: &[u8]) -> Outcome
     requires { ⌜ length (now body) ≡ bodyLength kind ⌝ }
-    ensures { λ r. ⌜ (toldAnswer r ≡ recordAnswer kind (now (body .entry)) (now (room .entry))) × (now (room .exit) ≡ recordRoom kind (now (body .entry)) (now (room .entry))) ⌝ }
+    ensures { λ r. ⌜ (outcomeAnswer r ≡ recordAnswer kind (now (body .entry)) (now (room .entry)))
+        × (now (room .exit) ≡ recordRoom kind (now (body .entry)) (now (room .entry))) ⌝ }
 {
     match kind {
         Kind::Word => word(room, body),
@@ -144,7 +158,7 @@ pub fn told(room: &mut [u8], kind: Kind, body: &[u8]) -> Told
         Kind::Ced => asked(navmessage::get_ced_and_status(room, satellite(body))),
         Kind::Timing => asked(navmessage::get_timing_parameters(room, satellite(body))),
         Kind::Fresh => fresh(room, body),
-        Kind::Unknown => Told::Refused(UNKNOWN_KIND),
+        Kind::Unknown => Outcome::Refused(UNKNOWN_KIND),
     }
 }
 
@@ -166,10 +180,17 @@ pub fn part<'a>(room: &'a [u8], kind: Kind, body: &[u8]) -> &'a [u8]
 
 // The line for a whole record, from a place of `out` on, and the room after it.
 pub fn answer(room: &mut [u8], kind: Kind, body: &[u8], out: &mut [u8], at: usize) -> usize
-    requires { ⌜ (length (now body) ≡ bodyLength kind) × (at + 200 ≤ length (now out)) ⌝ }
+    requires { ⌜ (length (now body) ≡ bodyLength kind) × (at + longestLine ≤ length (now out)) ⌝ }
     ensures { λ r. ⌜ (now (room .exit) ≡ recordRoom kind (now (body .entry)) (now (room .entry)))
-        × ((Put (now (out .entry)) at (recordLine kind (now (body .entry)) (now (room .entry))) (now (out .exit)) r) × (r ≤ at + 200)) ⌝ }
+        × ((Put (now (out .entry)) at (recordLine kind (now (body .entry)) (now (room .entry))) (now (out .exit)) r) × (r ≤ at + longestLine)) ⌝ }
 {
-    let told = told(room, kind, body);
-    lines::put_line(out, at, kind, satellite(body), told, part(room, kind, body))
+    let outcome = outcome(room, kind, body);
+    lines::put_line(
+        out,
+        at,
+        kind,
+        satellite(body),
+        outcome,
+        part(room, kind, body),
+    )
 }

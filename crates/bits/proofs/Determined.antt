@@ -3,28 +3,8 @@ use mathlib.Core.Path.{_≡_, sym, _∙_}
 use borrow.Fn.Kinds.{resT, endedOf, Dens}
 use denote.Triple.Clauses.{AtExit}
 use contract.Lifetimes.{Lfts}
-use Rattle.bits.proofs.read_bit.Reads as read-bit-reads
-use Rattle.bits.proofs.read_bit.Kinds as read-bit-kinds
-use Rattle.bits.proofs.write_bit.Reads as write-bit-reads
-use Rattle.bits.proofs.write_bit.Kinds as write-bit-kinds
 use Rattle.bits.proofs.move_bits.Reads as move-bits-reads
 use Rattle.bits.proofs.move_bits.Kinds as move-bits-kinds
-
-pub read-bit-determined :
-    (κs : Lfts 1)
-    (a : Dens κs read-bit-kinds.ps)
-    (r r' : resT read-bit-kinds.r κs .Denot)
-    (e e' : AtExit (endedOf 1 read-bit-kinds.ps read-bit-kinds.r) κs)
-    → read-bit-reads.Post κs a r e → read-bit-reads.Post κs a r' e' → r ≡ r'
-read-bit-determined κs a r r' e e' p q = p .0 ∙ sym (q .0)
-
-pub write-bit-determined :
-    (κs : Lfts 1)
-    (a : Dens κs write-bit-kinds.ps)
-    (r r' : resT write-bit-kinds.r κs .Denot)
-    (e e' : AtExit (endedOf 1 write-bit-kinds.ps write-bit-kinds.r) κs)
-    → write-bit-reads.Post κs a r e → write-bit-reads.Post κs a r' e' → e .0 .now ≡ e' .0 .now
-write-bit-determined κs a r r' e e' p q = p ∙ sym q
 
 pub move-bits-determined :
     (κs : Lfts 2)

@@ -12,9 +12,9 @@ use lib.ListN.{length, getD, set, length-set}
 use lib.Seq.{set-getD, getD-set-same, getD-set-other}
 use lib.Pow.{pow-pos, shr-shr, high, low}
 use Rattle.paper.specs.Parts.{Bytes}
-use Rattle.paper.specs.Bits.{bitAt, moved, changed}
+use Rattle.paper.specs.Bits.{spliced, bitAt, moved, changed}
 use Rattle.paper.proofs.Bytes.{bytes-set}
-use Rattle.paper.proofs.Digits.{low-digit, spliced, spliced-above, spliced-inside, spliced-below, spliced-lt}
+use Rattle.paper.proofs.Digits.{low-digit, spliced-above, spliced-inside, spliced-below, spliced-lt}
 use Rattle.paper.proofs.Bits.{same-bits, length-moved, bytes-moved, moved-before, moved-after, moved-inside, changed-not, not-changed}
 use Rattle.bits.specs.Field.{fieldOf}
 

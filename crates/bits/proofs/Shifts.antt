@@ -5,7 +5,8 @@ use native.Mathlib.Omega.{arith}
 use native.Mathlib.Nat.{one-mul, lt-of-lt-of-le, mod-eq-of-lt}
 use lib.Dec.{lit<}
 use lib.Pow.{shl-exact, shr-le, pow-mono, pow-pos}
-use Rattle.paper.proofs.Digits.{spliced, rest-lt, spliced-lt}
+use Rattle.paper.specs.Bits.{spliced}
+use Rattle.paper.proofs.Digits.{rest-lt, spliced-lt}
 
 -- 1 << k
 pub one-shl : (k : ℕ) → k ≤ 8 → (1 * 2 ^ k) % 4294967296 ≡ 2 ^ k

@@ -1,19 +1,13 @@
-// Bits of bytes, "bit 0 the top bit of the first byte" (document 01, "Words"): one bit read, one written, and a move of bits that goes
-// byte by byte and ensures what the bit-by-bit definition says.
+// Bits of bytes, "bit 0 the top bit of the first byte" (document 01, "Words"): a move of bits that goes byte by byte and ensures what
+// the bit-by-bit definition says.
+use numbers::as_u32;
 ghost use mathlib.Core.Path.{_≡_};
 ghost use mathlib.Core.Bool.{true, cond};
 ghost use Prim.Native.Nat.{_+_, _-_, _*_, _/_, _%_, _^_, _≤_, _<_, min};
 ghost use lib.Dec.{eqb};
 ghost use lib.ListN.{length, getD, set};
-ghost use Rattle.paper.specs.Bits.{bitAt, putBit, moved, changed};
-ghost use Rattle.paper.proofs.Digits.{spliced};
+ghost use Rattle.paper.specs.Bits.{spliced, moved, changed};
 ghost use Rattle.bits.specs.Field.{fieldOf};
-
-fn wide(x: u8) -> u32
-    ensures { λ r. ⌜ (r ≡ x) × (r < 256) ⌝ }
-{
-    x as u32
-}
 
 // b with the k bits from weight 2 ^ s on made v.
 fn joined(b: u32, s: usize, k: usize, v: u32) -> u8
@@ -25,29 +19,11 @@ fn joined(b: u32, s: usize, k: usize, v: u32) -> u8
     (high + low) as u8
 }
 
-// Bit i of s, 0 or 1.
-pub fn read_bit(s: &[u8], i: usize) -> u8
-    requires { ⌜ i / 8 < length (now s) ⌝ }
-    ensures { λ r. ⌜ (r ≡ bitAt (now (s .entry)) i) × (r < 2) ⌝ }
-{
-    (s[i / 8] >> (7 - i % 8)) % 2
-}
-
-// s with bit i made v, which is 0 or 1.
-pub fn write_bit(s: &mut [u8], i: usize, v: u8)
-    requires { ⌜ (i / 8 < length (now s)) × (v < 2) ⌝ }
-    ensures { λ _. ⌜ now (s .exit) ≡ putBit (now (s .entry)) i v ⌝ }
-{
-    let j = i / 8;
-    let b = wide(s[j]);
-    s[j] = joined(b, 7 - i % 8, 1, wide(v));
-}
-
 // Byte j, or 0 past the end: behind the last bits of a slice stands no byte.
 fn byte_or_zero(w: &[u8], j: usize) -> u32
     ensures { λ r. ⌜ (r ≡ getD (now (w .entry)) j 0) × (r < 256) ⌝ }
 {
-    if j < w.len() { wide(w[j]) } else { 0 }
+    if j < w.len() { as_u32(w[j]) } else { 0 }
 }
 
 // The k bits of w from bit p on, as a number.
@@ -56,7 +32,7 @@ fn field(w: &[u8], p: usize, k: usize) -> u32
     ensures { λ r. ⌜ r ≡ fieldOf (now (w .entry)) p k ⌝ }
 {
     let j = p / 8;
-    let a = wide(w[j]);
+    let a = as_u32(w[j]);
     let b = byte_or_zero(w, j + 1);
     ((a * 256 + b) >> (16 - (p % 8 + k))) % (1u32 << k)
 }
@@ -79,7 +55,7 @@ fn move_field(d: &mut [u8], to: usize, w: &[u8], from: usize, k: usize, hit: boo
 {
     let v = field(w, from, k);
     let j = to / 8;
-    let y = joined(wide(d[j]), 8 - (to % 8 + k), k, v);
+    let y = joined(as_u32(d[j]), 8 - (to % 8 + k), k, v);
     put_byte(d, j, y, hit)
 }
 
@@ -89,8 +65,8 @@ fn move_byte(d: &mut [u8], i: usize, w: &[u8], j: usize, r: usize, hit: bool) ->
     ensures { λ s. ⌜ (now (d .exit) ≡ moved (now (d .entry)) (8 * i) (now (w .entry)) (8 * j + r) 8)
         × (s ≡ cond (changed (now (d .entry)) (8 * i) (now (w .entry)) (8 * j + r) 8) true hit) ⌝ }
 {
-    let a = wide(w[j]);
-    let b = wide(w[j + 1]);
+    let a = as_u32(w[j]);
+    let b = as_u32(w[j + 1]);
     let y = (((a * 256 + b) >> (8 - r)) % 256) as u8;
     put_byte(d, i, y, hit)
 }

@@ -1,8 +1,10 @@
-// Each call of the store through each of its refusals, and through successes, on a small room: a line for each call.
+// Each call of the store through each of its refusals and successes, on a small room: a line for each call; through every value of
+// each of its numbers, a line for each number; on rooms that no call makes; and the examples of document 01 that its table leaves to a
+// program.
 //
 // A line says the call and its numbers, then after the colon what came back: the number of document 01 and its values, for a part
 // that is handed out its length and its Adler-32, and last the Adler-32 of the whole room, which stays where the number is not 0. The
-// lines that the gate compares with were computed from document 01 by a model of their own, and not taken from this program.
+// lines that the gate compares with are those of tools/model, which was written from document 01 and not from this program.
 use gst::Gst;
 use gst::Tow;
 use gst::Wn;
@@ -288,6 +290,9 @@ fn no_store(room: &mut [u8; ROOM]) {
     spoilt(room, 1, 37);
     spoilt(room, 2, 2);
     spoilt(room, 3, 1);
+    spoilt(room, 4, 1);
+    spoilt(room, 5, 1);
+    spoilt(room, 6, 1);
     spoilt(room, 7, 1);
     spoilt(room, 8, 2);
     spoilt(room, 14, 157);
@@ -417,6 +422,219 @@ fn ask_calls(room: &mut [u8; ROOM]) {
     ask(room, 36);
 }
 
+// ---- every value of a number
+// The number of a call that goes through its values; the others are allowed.
+enum Swept {
+    Rows,
+    Slots,
+    Band,
+    FedSatellite,
+    Kind,
+    Cop,
+    Length,
+    Status,
+    TagSatellite,
+    ShownKind,
+    ShownCop,
+    ShownSatellite,
+    AskedSatellite,
+    Count,
+}
+
+// A tag of E01 over the ones that its record holds.
+fn one_tag(room: &mut [u8; ROOM], svn: u8, kind: u8, cop: u8, bits: u8, status: u8) {
+    let given = [255; 69];
+    tagged(navmessage::tag(
+        room,
+        Svn(svn),
+        kind,
+        cop,
+        bits,
+        status,
+        at(WEEK, T30),
+        &given,
+        true,
+    ));
+}
+
+fn one_shown(room: &[u8; ROOM], svn: u8, kind: u8, cop: u8) {
+    reply(navmessage::candidate(room, Svn(svn), kind, cop, at(WEEK, T30)));
+}
+
+// The count of the CED record of slot 1, and what asking for it says.
+fn one_count(room: &mut [u8; ROOM], v: u8) {
+    room[117] = 0;
+    room[118] = v;
+    asked(navmessage::get_ced_and_status(room, Svn(1)));
+}
+
+fn one(room: &mut [u8; ROOM], swept: Swept, v: u8) {
+    let mut word = [255; 16];
+    word[0] = 7;
+    match swept {
+        Swept::Rows => reply(navmessage::fresh(room, v, 1)),
+        Swept::Slots => reply(navmessage::fresh(room, 1, v)),
+        Swept::Band => reply(navmessage::feed(room, &word, Svn(1), at(WEEK, T), v)),
+        Swept::FedSatellite => reply(navmessage::feed(room, &word, Svn(v), at(WEEK, T), 0)),
+        Swept::Kind => one_tag(room, 1, v, 1, 40, 2),
+        Swept::Cop => one_tag(room, 1, 0, v, 40, 2),
+        Swept::Length => one_tag(room, 1, 0, 1, v, 2),
+        Swept::Status => one_tag(room, 1, 0, 1, 40, v),
+        Swept::TagSatellite => one_tag(room, v, 0, 1, 40, 2),
+        Swept::ShownKind => one_shown(room, 1, v, 1),
+        Swept::ShownCop => one_shown(room, 1, 0, v),
+        Swept::ShownSatellite => one_shown(room, v, 0, 1),
+        Swept::AskedSatellite => asked(navmessage::get_ced_and_status(room, Svn(v))),
+        Swept::Count => one_count(room, v),
+    }
+}
+
+fn sweep(room: &mut [u8; ROOM], name: &[u8], swept: Swept) {
+    text(name);
+    text(b":");
+    let mut v: u16 = 0;
+    while v < 256 {
+        one(room, swept, v as u8);
+        v += 1;
+    }
+    end(room);
+}
+
+// D 2 and N 2 with all words of E01 in slot 1 of row 0.
+fn begin(room: &mut [u8; ROOM]) {
+    fresh(room, 2, 2);
+    all_words(room, 1, at(WEEK, T));
+}
+
+fn every_value(room: &mut [u8; ROOM]) {
+    sweep(room, b"every D", Swept::Rows);
+    sweep(room, b"every N", Swept::Slots);
+    begin(room);
+    sweep(room, b"a word of every band", Swept::Band);
+    sweep(room, b"a tag of every kind", Swept::Kind);
+    sweep(room, b"a tag of every COP", Swept::Cop);
+    sweep(room, b"a tag of every length", Swept::Length);
+    sweep(room, b"a tag of every status", Swept::Status);
+    sweep(room, b"a tag of every satellite", Swept::TagSatellite);
+    sweep(room, b"the candidate of every kind", Swept::ShownKind);
+    sweep(room, b"the candidate of every COP", Swept::ShownCop);
+    sweep(
+        room,
+        b"the candidate of every satellite",
+        Swept::ShownSatellite,
+    );
+    sweep(room, b"asking for every satellite", Swept::AskedSatellite);
+    sweep(room, b"asking for every count up to 255", Swept::Count);
+    sweep(room, b"a word of every satellite", Swept::FedSatellite);
+}
+
+// ---- rooms that no call makes
+// Slot 0 of row 0 becomes E01's too: zeros with ages of 0, a count of 41 and, in the timing record, of 42.
+fn take_slot_0(room: &mut [u8; ROOM]) {
+    room[16] = 1;
+    room[18] = 41;
+    room[19] = 0;
+    room[20] = 0;
+    room[21] = 0;
+    room[22] = 0;
+    room[23] = 0;
+    room[93] = 1;
+    room[95] = 42;
+    room[96] = 0;
+    room[97] = 0;
+}
+
+// E01 in both slots of row 0, with ones and counts of 50 and 51 in slot 1: the first is the candidate, and the first answers.
+fn satellite_twice(room: &mut [u8; ROOM]) {
+    let given = [0; 69];
+    begin(room);
+    text(b"E01 twice in a row\n");
+    take_slot_0(room);
+    room[118] = 50;
+    room[195] = 51;
+    candidate(room, 1, 0, 1, at(WEEK, T30));
+    candidate(room, 1, 4, 1, at(WEEK, T30));
+    ask(room, 1);
+    tag(room, 1, 0, 1, 40, 2, at(WEEK, T30), &given);
+    tag(room, 1, 4, 1, 40, 2, at(WEEK, T30), &given[0..18]);
+    ask(room, 1);
+}
+
+// A row's time of 604800, which is no time, and of 604770, the last start of a week.
+fn row_times(room: &mut [u8; ROOM]) {
+    begin(room);
+    room[11] = 0;
+    room[12] = 9;
+    room[13] = 58;
+    room[14] = 128;
+    text(b"a row of 604800:");
+    every(room);
+    room[14] = 98;
+    text(b"a row of 604770:");
+    every(room);
+}
+
+// A record without a satellite keeps its ages when one takes it, and so fits a COP of one more than the greatest.
+fn ages_of_none(room: &mut [u8; ROOM]) {
+    fresh(room, 1, 1);
+    text(b"ages where no satellite is\n");
+    room[19] = 1;
+    room[20] = 5;
+    room[21] = 3;
+    room[22] = 4;
+    room[23] = 2;
+    room[96] = 7;
+    room[97] = 6;
+    word(room, 3, 0, 5, at(WEEK, T));
+    candidate(room, 5, 0, 5, at(WEEK, T30));
+    candidate(room, 5, 0, 6, at(WEEK, T30));
+    candidate(room, 5, 4, 7, at(WEEK, T30));
+    candidate(room, 5, 4, 8, at(WEEK, T30));
+}
+
+// ---- the examples of document 01 that a program runs
+// A fresh store with both timing words of E01, of zeros.
+fn begin_clock(room: &mut [u8; ROOM], d: u8) {
+    fresh(room, d, 1);
+    word(room, 24, 0, 1, at(1, 0));
+    word(room, 40, 0, 1, at(1, 0));
+}
+
+// A word 6 of E01 whose second byte has one bit: the record's data then starts with 32.
+fn changed_six(room: &mut [u8; ROOM]) {
+    let mut six = [0; 16];
+    six[0] = 24;
+    six[1] = 128;
+    feed(room, &six, 1, at(1, 0), 0);
+}
+
+// "D 3, subframes A, B, A: a tag for A is looked up in row 0."
+fn looked_up(room: &mut [u8; ROOM]) {
+    let given = [0; 18];
+    text(b"D 3, subframes A, B, A\n");
+    begin_clock(room, 3);
+    word(room, 0, 0, 1, at(1, 30));
+    changed_six(room);
+    candidate(room, 1, 4, 15, at(1, 30));
+    tag(room, 1, 4, 15, 40, 2, at(1, 30), &given);
+}
+
+// "The same word again keeps the count; one bit changed gives 0."
+fn same_word(room: &mut [u8; ROOM]) {
+    let mut given = [0; 18];
+    text(b"the same word again, and one with a bit changed\n");
+    begin_clock(room, 1);
+    tag(room, 1, 4, 15, 40, 2, at(1, 30), &given);
+    ask(room, 1);
+    word(room, 24, 0, 1, at(1, 0));
+    ask(room, 1);
+    changed_six(room);
+    ask(room, 1);
+    given[0] = 32;
+    tag(room, 1, 4, 15, 40, 2, at(1, 30), &given);
+    ask(room, 1);
+}
+
 fn main() {
     let mut room = [7; ROOM];
     fresh_calls(&mut room);
@@ -427,4 +645,10 @@ fn main() {
     tags_taken(&mut room);
     candidate_calls(&mut room);
     ask_calls(&mut room);
+    every_value(&mut room);
+    satellite_twice(&mut room);
+    row_times(&mut room);
+    ages_of_none(&mut room);
+    looked_up(&mut room);
+    same_word(&mut room);
 }

@@ -1,6 +1,5 @@
 -- "The place of the greatest key, the last of equals": a turn of the loop over keys, and why the satellite's own last record is it.
 use native.Mathlib.Omega.{arith}
-use native.Mathlib.Nat.{add-zero}
 use native.Mathlib.Numerals.{add-one}
 use native.Mathlib.Decide.{ℕ-discrete}
 use mathlib.Core.Path.{_≡_, refl, sym, ap, _∙_}
@@ -11,15 +10,14 @@ use Prim.Native.Nat.{ℕ, zero, suc, _+_, _≤_, _<_}
 use borrow.Author.Tests.{le-leb, lt-leb, eq-eqb, ne-eqb, eqb-true, eqb-false}
 use lib.ListN.{getD}
 use Rattle.paper.specs.Parts.{Bytes}
-use Rattle.paper.specs.Record.{Family, size, satellite, ages, agesOf, greatest}
-use Rattle.paper.specs.Room.{base, recordAt, recordOf}
+use Rattle.paper.specs.Record.{Family, satelliteAt, agesAt, size, satellite, ages, agesOf, greatest}
+use Rattle.paper.specs.Room.{base, slotAt, recordAt, recordOf}
 use Rattle.paper.specs.Feed.{key, lastGreatest, chosen}
 use Rattle.paper.proofs.Parts.{getD-part}
 use Rattle.paper.proofs.Bytes.{bytes-part}
-use Rattle.paper.proofs.Views.{record-parts}
 use Rattle.paper.proofs.Lengths.{lastGreatest-lt}
 use Rattle.choice.specs.Last.{isOf, lastOf, pick}
-use Rattle.choice.specs.declared.Place.the-variants.{At}
+use Rattle.choice.specs.declared.Slot.the-variants.{At}
 
 -- "the last of equals": a key that is no less takes the place of the best before it
 next-new : (k : ℕ → ℕ) (n : ℕ) → k (lastGreatest k n) ≤ k n → lastGreatest k (suc n) ≡ n
@@ -113,23 +111,23 @@ module _ (f : Family) (sat : ℕ) (rec : List ℕ) where
     where
       go : Dec (satellite rec ≡ 0) → key f sat rec < 257
       go (yes e) = omega (arith, key-none n e)
-      go (no m) = omega (arith, key-age n m, greatest-byte (agesOf f rec) (bytes-part 3 (ages f) rec b))
+      go (no m) = omega (arith, key-age n m, greatest-byte (agesOf f rec) (bytes-part agesAt (ages f) rec b))
 
 -- the keys of the records of a row
 abbrev pub keysOf : Family → ℕ → List ℕ → ℕ → ℕ
 keysOf f sat row i = key f sat (recordOf f i row)
 
-satellite-at : (f : Family) (i : ℕ) (row : List ℕ) → satellite (recordOf f i row) ≡ getD row (recordAt f i) 0
+satellite-at : (f : Family) (i : ℕ) (row : List ℕ) → satellite (recordOf f i row) ≡ getD row (slotAt i + (base f + satelliteAt)) 0
 satellite-at f i row =
-    let z : 0 < size f = omega (arith, record-parts f) in
-    getD-part (recordAt f i) (size f) row 0 z ∙ ap (λ (k : ℕ). getD row k 0) (add-zero (recordAt f i))
+    let e : recordAt f i + satelliteAt ≡ slotAt i + (base f + satelliteAt) = omega arith in
+    getD-part (recordAt f i) (size f) row satelliteAt (omega arith) ∙ ap (λ (k : ℕ). getD row k 0) e
 
 -- the search from the end finds the record that the keys choose
-pub own-is-chosen : (f : Family) (sat n slot : ℕ) (row : List ℕ) → Bytes row → lastOf (isOf row (base f) sat) n ≡ At slot
+pub own-is-chosen : (f : Family) (sat n slot : ℕ) (row : List ℕ) → Bytes row → lastOf (isOf row (base f + satelliteAt) sat) n ≡ At slot
     → (slot ≡ chosen f sat n row) × (slot < n)
 unfolding chosen
 own-is-chosen f sat n slot row b e =
-    let r = last-is-greatest (isOf row (base f) sat) (keysOf f sat row) 257
+    let r = last-is-greatest (isOf row (base f + satelliteAt) sat) (keysOf f sat row) 257
     (λ i t. key-same f sat (recordOf f i row) (satellite-at f i row ∙ eqb-true _ _ t))
     (λ i t. key-other f sat (recordOf f i row) (bytes-part (recordAt f i) (size f) row b) (λ q. eqb-false _ _ t (sym (satellite-at f i row) ∙ q)))
     n slot e in

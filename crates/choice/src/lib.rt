@@ -1,16 +1,14 @@
 // Which record of a row a word goes to: "The search ends with the place of the greatest key, the last of equals" (document 01, "What a
 // word does"). Only the promises of `choose_ced` and `choose_timing` are for callers.
 ghost use mathlib.Core.Path.{_≡_};
-ghost use Prim.Native.Nat.{_+_, _*_, _≤_, _<_};
+ghost use Prim.Native.Nat.{_+_, _≤_, _<_};
 ghost use lib.ListN.{length};
 ghost use Rattle.paper.specs.Record.{familyIf, size, CED, Timing as TIMING};
-ghost use Rattle.paper.specs.Room.{mostSlots, slotSize, base, rowSize, recordOf};
+ghost use Rattle.paper.specs.Room.{mostSlots, slotSize, rowSize, recordOf};
 ghost use Rattle.paper.specs.Feed.{key, chosen};
 ghost use Rattle.choice.specs.Last.{isOf, lastOf};
-use layout::ROW_HEAD;
-use layout::SLOT;
-use layout::TIMING_AT;
 use records::Ced;
+use records::SATELLITE_AT;
 use records::Timing;
 
 // "257 for the same satellite, 256 for none, else its greatest age"
@@ -19,59 +17,53 @@ const SAME: u16 = 257;
 const NONE: u16 = 256;
 
 // The slot that a search found.
-enum Place {
+enum Slot {
     At(usize),
     Nowhere,
 }
 
-// The last of n slots whose record, `base` bytes from the slot's start, is of the satellite.
-fn last_of(row: &[u8], base: usize, n: usize, sat: u8) -> Place
-    requires { ⌜ (n ≤ mostSlots) × (base < slotSize) × (rowSize n ≤ length (now row)) ⌝ }
-    ensures { λ r. ⌜ r ≡ lastOf (isOf (now (row .entry)) base sat) n ⌝ }
+// The last of n slots that has the satellite at its byte `at`.
+fn last_of(row: &[u8], at: usize, n: usize, sat: u8) -> Slot
+    requires { ⌜ (n ≤ mostSlots) × (at < slotSize) × (rowSize n ≤ length (now row)) ⌝ }
+    ensures { λ r. ⌜ r ≡ lastOf (isOf (now (row .entry)) at sat) n ⌝ }
 {
     let mut left = n;
     let slot = loop {
         if left == 0 {
-            return Place::Nowhere;
+            return Slot::Nowhere;
         }
         left -= 1;
-        if row[ROW_HEAD + left * SLOT + base] == sat {
+        if row[rows::slot_start(left) + at] == sat {
             break left;
         }
     };
-    Place::At(slot)
-}
-
-fn wide(x: u8) -> u16
-    ensures { λ r. ⌜ r ≡ x ⌝ }
-{
-    x as u16
+    Slot::At(slot)
 }
 
 fn key_ced(bytes: &[u8], sat: u8) -> u16
     requires { ⌜ length (now bytes) ≡ size CED ⌝ }
     ensures { λ r. ⌜ r ≡ key CED sat (now (bytes .entry)) ⌝ }
 {
-    if bytes[0] == sat {
+    if bytes[SATELLITE_AT] == sat {
         return SAME;
     }
-    if bytes[0] == 0 {
+    if bytes[SATELLITE_AT] == 0 {
         return NONE;
     }
-    wide(Ced::greatest(Ced::ages(bytes)))
+    numbers::as_u16(Ced::greatest(Ced::ages(bytes)))
 }
 
 fn key_timing(bytes: &[u8], sat: u8) -> u16
     requires { ⌜ length (now bytes) ≡ size TIMING ⌝ }
     ensures { λ r. ⌜ r ≡ key TIMING sat (now (bytes .entry)) ⌝ }
 {
-    if bytes[0] == sat {
+    if bytes[SATELLITE_AT] == sat {
         return SAME;
     }
-    if bytes[0] == 0 {
+    if bytes[SATELLITE_AT] == 0 {
         return NONE;
     }
-    wide(Timing::greatest(Timing::ages(bytes)))
+    numbers::as_u16(Timing::greatest(Timing::ages(bytes)))
 }
 
 // The key of the record of slot i.
@@ -79,12 +71,11 @@ fn key_at(row: &[u8], timing: bool, i: usize, sat: u8) -> u16
     requires { ⌜ (i < mostSlots) × (rowSize (i + 1) ≤ length (now row)) ⌝ }
     ensures { λ r. ⌜ r ≡ key (familyIf timing) sat (recordOf (familyIf timing) i (now (row .entry))) ⌝ }
 {
-    let start = ROW_HEAD + i * SLOT;
+    let at = rows::record_start(timing, i);
     if timing {
-        let behind = start + TIMING_AT;
-        return key_timing(&row[behind..behind + Timing::SIZE], sat);
+        return key_timing(&row[at..at + Timing::SIZE], sat);
     }
-    key_ced(&row[start..start + Ced::SIZE], sat)
+    key_ced(&row[at..at + Ced::SIZE], sat)
 }
 
 // "the place of the greatest key, the last of equals": a key that is no less takes the place.
@@ -111,7 +102,7 @@ fn choose(row: &[u8], timing: bool, n: usize, sat: u8) -> usize
     requires { ⌜ (1 ≤ n) × (n ≤ mostSlots) × (rowSize n ≤ length (now row)) ⌝ }
     ensures { λ r. ⌜ (r ≡ chosen (familyIf timing) sat n (now (row .entry))) × (r < n) ⌝ }
 {
-    let Place::At(slot) = last_of(row, layout::base(timing), n, sat) else {
+    let Slot::At(slot) = last_of(row, layout::base(timing) + SATELLITE_AT, n, sat) else {
         return by_keys(row, timing, n, sat);
     };
     slot

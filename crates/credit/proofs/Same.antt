@@ -11,7 +11,7 @@ use lib.Seq.{drop-cons, length-take-le, getD-take}
 use Prim.Native.Nat.{ℕ, zero, suc, _+_, _-_, _/_, _≤_, _<_}
 use Rattle.paper.specs.Big.{be16, be32}
 use Rattle.paper.specs.Parts.{Bytes}
-use Rattle.paper.specs.Record.{Family, CED, Timing, familyIf, dataBytes, sameList, sameBits}
+use Rattle.paper.specs.Record.{Family, familyIf, dataBytes, lastWeight, sameList, sameBits}
 use Rattle.paper.proofs.Big.{be32-before}
 use Rattle.paper.proofs.Same.{list-true}
 
@@ -98,9 +98,9 @@ bytes-of false = omega arith
 
 -- "all its bits", by bytes
 pub bits-by-bytes : (f : Family) (a b : List ℕ) (k : ℕ) → k ≡ dataBytes f - 1 → length a ≡ dataBytes f → length b ≡ dataBytes f
-    → sameBits f a b ≡ (eqb (getD a k 0 / 8) (getD b k 0 / 8) && sameList (take k a) (take k b))
+    → sameBits f a b ≡ (eqb (getD a k 0 / lastWeight) (getD b k 0 / lastWeight) && sameList (take k a) (take k b))
 unfolding sameBits
 bits-by-bytes f a b k z la lb =
     let ta : length (take k a) ≡ k = length-take-le k a (omega arith) in
     let tb : length (take k b) ≡ k = length-take-le k b (omega arith) in
-    rw (← z) (same-last (take k a) (take k b) (getD a k 0 / 8) (getD b k 0 / 8) (ta ∙ sym tb))
+    rw (← z) (same-last (take k a) (take k b) (getD a k 0 / lastWeight) (getD b k 0 / lastWeight) (ta ∙ sym tb))

@@ -1,17 +1,20 @@
 // What an accepted tag adds: its length to each record, in any row, with the candidate's satellite and all its bits.
 // The given data takes the candidate's place in the comparison: the two agree in all bits that are compared.
 ghost use mathlib.Core.Path.{_≡_};
-ghost use mathlib.Core.Bool.{cond};
-ghost use Prim.Native.Nat.{_+_, _*_, _≤_, _<_, min};
-ghost use lib.ListN.{length, take, drop, getD};
-ghost use Rattle.paper.specs.Record.{familyIf, size, dataAt, dataBytes, count, sameList, sameBits, withCount};
-ghost use Rattle.paper.specs.Room.{base, slotSize, rowSize, roomSize, inSlot, eachRecord, everyRecord, howMany, howManyIn, depth, slots};
-ghost use Rattle.paper.specs.Parts.{part, onParts, sumParts};
+ghost use Prim.Native.Nat.{_+_, _≤_, min};
+ghost use lib.ListN.{length, take, drop};
+ghost use Rattle.paper.specs.Record.{familyIf, dataBytes, agesAt, count, mostCount, sameList, sameBits, withCount};
+ghost use Rattle.paper.specs.Room.{mostSlots, slotSize, rowSize, inSlot, eachRecord, everyRecord, howMany, howManyIn};
+ghost use Rattle.paper.specs.Store.{InRange};
 ghost use Rattle.paper.specs.Tag.{matches, credited};
 ghost use Rattle.credit.specs.Slot.{takes};
 use layout::HEADER;
 use layout::ROW_HEAD;
 use layout::SLOT;
+use records::COUNT_AT;
+use records::LAST_WEIGHT;
+use records::MOST_COUNT;
+use records::SATELLITE_AT;
 
 // Whether the bytes from `from` to n are the same.
 fn same_bytes(a: &[u8], b: &[u8], from: usize, n: usize) -> bool
@@ -49,7 +52,7 @@ pub fn same_bits(a: &[u8], b: &[u8], timing: bool) -> bool
     ensures { λ r. ⌜ r ≡ sameBits (familyIf timing) (now (a .entry)) (now (b .entry)) ⌝ }
 {
     let last = a.len() - 1;
-    if a[last] / 8 != b[last] / 8 {
+    if a[last] / LAST_WEIGHT != b[last] / LAST_WEIGHT {
         return false;
     }
     same_first(a, b, last)
@@ -57,36 +60,38 @@ pub fn same_bits(a: &[u8], b: &[u8], timing: bool) -> bool
 
 // The sum, held at 65535.
 fn held(count: u16, added: u8) -> u16
-    ensures { λ r. ⌜ r ≡ min 65535 (count + added) ⌝ }
+    ensures { λ r. ⌜ r ≡ min mostCount (count + added) ⌝ }
 {
-    let more = added as u16;
-    if count > 65535 - more {
-        return 65535;
+    let more = numbers::as_u16(added);
+    if count > MOST_COUNT - more {
+        return MOST_COUNT;
     }
     count + more
 }
 
 // A record with the length added to its count.
 fn add_length(rec: &mut [u8], added: u8)
-    requires { ⌜ 3 ≤ length (now rec) ⌝ }
-    ensures { λ _. ⌜ now (rec .exit) ≡ withCount (min 65535 (count (now (rec .entry)) + added)) (now (rec .entry)) ⌝ }
+    requires { ⌜ agesAt ≤ length (now rec) ⌝ }
+    ensures { λ _. ⌜ now (rec .exit) ≡ withCount (min mostCount (count (now (rec .entry)) + added)) (now (rec .entry)) ⌝ }
 {
-    let sum = held(numbers::read16(rec, 1), added);
-    numbers::write16(rec, 1, sum);
+    let sum = held(numbers::read16(rec, COUNT_AT), added);
+    numbers::write16(rec, COUNT_AT, sum);
 }
 
 // A slot's record of the family takes the tag if it has the satellite and the bits: 1 if it took it, else 0.
-fn credit_slot(slot: &mut [u8], timing: bool, sat: u8, bits: &[u8], added: u8) -> u32
-    requires { ⌜ (length (now slot) ≡ 100) × (length (now bits) ≡ dataBytes (familyIf timing)) ⌝ }
-    ensures { λ r. ⌜ (now (slot .exit) ≡ inSlot (familyIf timing) (credited (familyIf timing) sat (now (bits .entry)) added) (now (slot .entry))) × (r ≡ takes (familyIf timing) sat (now (bits .entry)) (now (slot .entry))) ⌝ }
+fn credit_slot(slot: &mut [u8], timing: bool, sat: u8, given: &[u8], added: u8) -> u32
+    requires { ⌜ (length (now slot) ≡ slotSize) × (length (now given) ≡ dataBytes (familyIf timing)) ⌝ }
+    ensures { λ r. ⌜ (now (slot .exit)
+        ≡ inSlot (familyIf timing) (credited (familyIf timing) sat (now (given .entry)) added) (now (slot .entry)))
+        × (r ≡ takes (familyIf timing) sat (now (given .entry)) (now (slot .entry))) ⌝ }
 {
     let a = layout::base(timing);
-    if slot[a] != sat {
+    if slot[a + SATELLITE_AT] != sat {
         return 0;
     }
     let e = a + records::size_of(timing);
     let d = a + records::data_at(timing);
-    if !same_bits(&slot[d..e], bits, timing) {
+    if !same_bits(&slot[d..e], given, timing) {
         return 0;
     }
     add_length(&mut slot[a..e], added);
@@ -94,16 +99,18 @@ fn credit_slot(slot: &mut [u8], timing: bool, sat: u8, bits: &[u8], added: u8) -
 }
 
 // The records of a family in a row.
-fn credit_row(row: &mut [u8], n: usize, timing: bool, sat: u8, bits: &[u8], added: u8) -> u32
-    requires { ⌜ (n ≤ 36) × ((rowSize n ≤ length (now row)) × (length (now bits) ≡ dataBytes (familyIf timing))) ⌝ }
-    ensures { λ r. ⌜ (now (row .exit) ≡ eachRecord (familyIf timing) n (credited (familyIf timing) sat (now (bits .entry)) added) (now (row .entry))) × ((r ≡ howMany (familyIf timing) n (matches (familyIf timing) sat (now (bits .entry))) (now (row .entry))) × (r ≤ n)) ⌝ }
+fn credit_row(row: &mut [u8], n: usize, timing: bool, sat: u8, given: &[u8], added: u8) -> u32
+    requires { ⌜ (n ≤ mostSlots) × ((rowSize n ≤ length (now row)) × (length (now given) ≡ dataBytes (familyIf timing))) ⌝ }
+    ensures { λ r. ⌜ (now (row .exit)
+        ≡ eachRecord (familyIf timing) n (credited (familyIf timing) sat (now (given .entry)) added) (now (row .entry)))
+        × ((r ≡ howMany (familyIf timing) n (matches (familyIf timing) sat (now (given .entry))) (now (row .entry))) × (r ≤ n)) ⌝ }
 {
     let mut total: u32 = 0;
     let mut at = ROW_HEAD;
     let mut left = n;
     while left > 0 {
         let e = at + SLOT;
-        total += credit_slot(&mut row[at..e], timing, sat, bits, added);
+        total += credit_slot(&mut row[at..e], timing, sat, given, added);
         at = e;
         left -= 1;
     }
@@ -111,25 +118,20 @@ fn credit_row(row: &mut [u8], n: usize, timing: bool, sat: u8, bits: &[u8], adde
 }
 
 // The records of a family in all rows: how many took the tag.
-pub fn credit_rows(
-    room: &mut [u8],
-    d: usize,
-    n: usize,
-    timing: bool,
-    sat: u8,
-    bits: &[u8],
-    added: u8,
-) -> u32
-    requires { ⌜ (d ≤ 255) × ((n ≤ 36) × ((roomSize d n ≤ length (now room)) × (length (now bits) ≡ dataBytes (familyIf timing)))) ⌝ }
-    ensures { λ r. ⌜ (now (room .exit) ≡ onParts (eachRecord (familyIf timing) n (credited (familyIf timing) sat (now (bits .entry)) added)) (rowSize n) d 8 (now (room .entry))) × (r ≡ sumParts (howMany (familyIf timing) n (matches (familyIf timing) sat (now (bits .entry)))) (rowSize n) d 8 (now (room .entry))) ⌝ }
+pub fn credit_rows(room: &mut [u8], timing: bool, sat: u8, given: &[u8], added: u8) -> u32
+    requires { ⌜ InRange (now room) × (length (now given) ≡ dataBytes (familyIf timing)) ⌝ }
+    ensures { λ r. ⌜ (now (room .exit)
+        ≡ everyRecord (familyIf timing) (credited (familyIf timing) sat (now (given .entry)) added) (now (room .entry)))
+        × (r ≡ howManyIn (familyIf timing) (matches (familyIf timing) sat (now (given .entry))) (now (room .entry))) ⌝ }
 {
-    let width = ROW_HEAD + n * SLOT;
+    let n = rows::slots(room);
+    let width = rows::row_size(n);
     let mut total: u32 = 0;
     let mut at = HEADER;
-    let mut left = d;
+    let mut left = rows::depth(room);
     while left > 0 {
         let e = at + width;
-        total += credit_row(&mut room[at..e], n, timing, sat, bits, added);
+        total += credit_row(&mut room[at..e], n, timing, sat, given, added);
         at = e;
         left -= 1;
     }

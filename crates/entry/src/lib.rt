@@ -1,31 +1,26 @@
 // "Order": the tests of each entry on its own input, in the paper's order, before anything is done. Each answers with the reply that
 // the call gives up to there.
 ghost use mathlib.Core.Path.{_≡_};
-ghost use mathlib.Core.Bool.{_&&_, cond};
-ghost use Prim.Native.Nat.{_+_, _*_, _≤_, _<_};
-ghost use lib.Dec.{leb, eqb};
-ghost use lib.ListN.{length};
 ghost use Rattle.paper.specs.Answer.{freshAnswer, feedAnswer};
-ghost use Rattle.refusals.specs.Reply.{answerOf};
+ghost use Rattle.refusals.specs.Reply.{replyAnswer};
 ghost use Rattle.entry.specs.Mack.{mackAnswer};
 use gst::Gst;
 use gst::SUBFRAME_SECONDS;
 use gst::WEEK_SECONDS;
+use limits::WORD_BYTES;
 use refusals::Refusal;
 use refusals::Reply;
 use svn::Svn;
 
-// The bytes of a word.
-const WORD: usize = 16;
-
 // "fresh 1, 2"
 pub fn fresh_entry(room: &[u8], d: u8, n: u8) -> Reply
-    ensures { λ r. ⌜ answerOf r ≡ freshAnswer d n (now (room .entry)) ⌝ }
+    ensures { λ r. ⌜ replyAnswer r ≡ freshAnswer d n (now (room .entry)) ⌝ }
 {
     if !limits::sizes_allowed(d, n) {
         return Reply::Refused(Refusal::Sizes);
     }
-    if room.len() < rows::row_start(rows::wide(n), rows::wide(d)) {
+    let size = rows::room_size(numbers::as_usize(d), numbers::as_usize(n));
+    if room.len() < size {
         return Reply::Refused(Refusal::TooShort);
     }
     Reply::Done
@@ -33,7 +28,7 @@ pub fn fresh_entry(room: &[u8], d: u8, n: u8) -> Reply
 
 // "Word 3, 4, 5, 8, 9"
 pub fn feed_entry(room: &[u8], word: &[u8], svn: Svn, gst: Gst, band: u8) -> Reply
-    ensures { λ r. ⌜ answerOf r ≡ feedAnswer (now (word .entry)) (svn .0) (gst .tow .0) band (now (room .entry)) ⌝ }
+    ensures { λ r. ⌜ replyAnswer r ≡ feedAnswer (now (word .entry)) (svn .0) (gst .tow .0) band (now (room .entry)) ⌝ }
 {
     if !store::is_store(room) {
         return Reply::Refused(Refusal::NotAStore);
@@ -45,7 +40,7 @@ pub fn feed_entry(room: &[u8], word: &[u8], svn: Svn, gst: Gst, band: u8) -> Rep
     if time >= WEEK_SECONDS {
         return Reply::Refused(Refusal::NoTime);
     }
-    if word.len() != WORD {
+    if word.len() != WORD_BYTES {
         return Reply::Refused(Refusal::NotAllowed);
     }
     if band > 1 {
@@ -56,7 +51,7 @@ pub fn feed_entry(room: &[u8], word: &[u8], svn: Svn, gst: Gst, band: u8) -> Rep
 
 // "Tag 3, 4, 5, 6": what a tag and the candidate test first
 pub fn mack_entry(room: &[u8], svn: Svn, gst: Gst) -> Reply
-    ensures { λ r. ⌜ answerOf r ≡ mackAnswer (svn .0) (gst .tow .0) (now (room .entry)) ⌝ }
+    ensures { λ r. ⌜ replyAnswer r ≡ mackAnswer (svn .0) (gst .tow .0) (now (room .entry)) ⌝ }
 {
     if !store::is_store(room) {
         return Reply::Refused(Refusal::NotAStore);

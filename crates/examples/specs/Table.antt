@@ -33,11 +33,27 @@ accepted = tag 175770 1 40 five ∷ five
 
 -- then its type 0 word at T + 30 s
 unfoldable pub later : List Call
-later = feed 1 0 175770 0 ∷ five
+later = feed 1 0 175770 0 ∷ accepted
 
--- and the tag at T + 60 s with COP 2
+-- then the tag at T + 60 s with COP 1
+unfoldable pub laterRefused : List Call
+laterRefused = tag 175800 1 40 later ∷ later
+
+-- and with COP 2
 unfoldable pub laterAccepted : List Call
-laterAccepted = tag 175800 2 40 later ∷ later
+laterAccepted = tag 175800 2 40 later ∷ laterRefused
+
+-- the two timing words of E01, of zeros, and a timing tag over them
+abbrev clock : ℕ → ℕ → List Call → List Call
+clock w t before = feedCall (word 10 0) 1 w t 0 ∷ feedCall (word 6 0) 1 w t 0 ∷ before
+
+abbrev clockTag : ℕ → ℕ → Call
+clockTag w t = tagCall 1 4 1 40 2 w t (replicate 18 0) true
+
+-- the first subframe of all, tagged; the next; and the first again, when the words are two subframes old
+unfoldable pub firstAgain : List Call
+firstAgain =
+    feedCall (word 0 0) 1 0 0 0 ∷ feedCall (word 0 0) 1 0 30 0 ∷ clockTag 0 30 ∷ clock 0 0 (freshCall 2 1 ∷ [])
 
 -- "Times"
 unfoldable pub times : List Row
@@ -79,10 +95,17 @@ tags =
     -- D 2, one satellite throughout: all five words at T, CED tag at T + 30 s, COP 1: accepted
     row (lastAnswer (tag 175770 1 40 five) five) (0 ∷ 1 ∷ [])
     -- its type 0 word at T + 30 s, tag at T + 60 s: COP 1 gives 10, COP 2 is accepted
+    ∷ row (lastAnswer (feed 1 0 175770 0) accepted) (0 ∷ [])
     ∷ row (lastAnswer (tag 175800 1 40 later) later) (10 ∷ [])
     -- then rows T and T + 30 s both take it: total 2
-    ∷ row (lastAnswer (tag 175800 2 40 later) later) (0 ∷ 2 ∷ [])
+    ∷ row (lastAnswer (tag 175800 2 40 later) laterRefused) (0 ∷ 2 ∷ [])
     ∷ row (agesOf CED (at CED 1 0 (after later))) (1 ∷ 1 ∷ 1 ∷ 1 ∷ 1 ∷ [])
+    -- given data that differs from the candidate's, or is short: 11
+    ∷ row (lastAnswer (tagCall 1 0 1 40 2 1177 175770 (replicate 69 0) true) five) (11 ∷ [])
+    ∷ row (lastAnswer (tagCall 1 0 1 40 2 1177 175770 (take 68 (cedData (after five))) true) five) (11 ∷ [])
+    -- a MACK in the first subframe of all, and data older than it: 7
+    ∷ row (lastAnswer (tagCall 1 0 1 40 2 0 0 [] true) five) (7 ∷ [])
+    ∷ row (lastAnswer (askCall Timing 1) firstAgain) (7 ∷ [])
     -- one 20-bit tag: 12. Two: 40
     ∷ row (lastAnswer (askCall CED 1) (tag 175770 1 20 five ∷ five)) (12 ∷ [])
     ∷ row
@@ -101,15 +124,10 @@ tags =
     (0 ∷ 1 ∷ [])
     ∷ []
 
--- the timing data of E01 as zeros, with its words 6 and 10 first at 60 s, then, earlier, at 30 s
+-- D 3: the timing words of E01 at 60 s, then, earlier, at 30 s, a tag on both, and at 90 s a changed word, which has no tag
 unfoldable pub backward : List Call
 backward =
-    feedCall (word 10 0) 1 1177 30 0
-    ∷ feedCall (word 6 0) 1 1177 30 0
-    ∷ feedCall (word 10 0) 1 1177 60 0
-    ∷ feedCall (word 6 0) 1 1177 60 0
-    ∷ freshCall 2 1
-    ∷ []
+    feedCall (word 10 255) 1 1177 90 0 ∷ clockTag 1177 60 ∷ clock 1177 30 (clock 1177 60 (freshCall 3 1 ∷ []))
 
 -- "Ways to get it nearly right": at each input the near miss would give something else
 unfoldable pub nearMisses : List Row
@@ -136,11 +154,9 @@ nearMisses =
     -- adding only to the candidate: the row copied from has the count too
     ∷ row
     (count (at CED 0 0 (after laterAccepted)) ∷ count (at CED 1 0 (after laterAccepted)) ∷ [])
-    (40 ∷ 40 ∷ [])
-    -- answering the greatest subframe in place of ring order: 30 s is current, 60 s is greater
-    ∷ row
-    (lastAnswer (askCall Timing 1) (tagCall 1 4 1 40 2 1177 60 (replicate 18 0) true ∷ backward))
-    (0 ∷ 40 ∷ 1177 ∷ 30 ∷ [])
+    (80 ∷ 80 ∷ [])
+    -- answering the greatest subframe in place of ring order: backward from 90 s comes 30 s, forward 60 s, which is greater too
+    ∷ row (lastAnswer (askCall Timing 1) backward) (0 ∷ 40 ∷ 1177 ∷ 30 ∷ [])
     ∷ []
 
 -- the table

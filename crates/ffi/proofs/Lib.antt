@@ -1,2 +1,3 @@
 pub mod Parts
 pub mod Determined
+pub mod Asks

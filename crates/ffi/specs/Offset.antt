@@ -7,7 +7,7 @@ use Rattle.paper.specs.Record.{Family, dataAt}
 use Rattle.paper.specs.Tag.{familyOf, candidateRow, candidateSlot}
 use Rattle.paper.specs.Answer.{candidateNumber, askNumber}
 use Rattle.lookup.specs.Candidate.{placeOf}
-use Rattle.ask.specs.Backward.{rowAnswering, slotAnswering}
+use Rattle.ask.specs.Answered.{askPlace}
 
 -- the data of the candidate
 unfoldable pub candidateOffset : ℕ → ℕ → ℕ → ℕ → ℕ → List ℕ → ℕ
@@ -19,6 +19,4 @@ candidateOffset sat kind cop w t room =
 -- the data of the record that answers
 unfoldable pub askOffset : Family → ℕ → List ℕ → ℕ
 askOffset f sat room =
-    cond (eqb (askNumber f sat room) 0)
-    (placeOf f (rowAnswering f sat room) (slotAnswering f sat room) room + dataAt f)
-    0
+    cond (eqb (askNumber f sat room) 0) (askPlace f sat room + dataAt f) 0

@@ -5,28 +5,29 @@ ghost use mathlib.Core.Bool.{cond};
 ghost use lib.ListN.{length};
 ghost use Rattle.paper.specs.Number.{refused, number};
 ghost use Rattle.paper.specs.Parts.{part};
-ghost use Rattle.paper.specs.Record.{CED, Timing as TIMING, familyIf, dataAt, dataBytes};
+ghost use Rattle.paper.specs.Record.{CED, Timing, familyIf};
 ghost use Rattle.paper.specs.Room.{roomSize};
 ghost use Rattle.paper.specs.Store.{sizesAllowed};
-ghost use Rattle.paper.specs.Answer.{freshAnswer, freshRoom, feedAnswer, feedRoom, tagAnswer, tagRoom, candidateAnswer, candidateData, askAnswer, askData, resetAnswer, resetRoom};
+ghost use Rattle.paper.specs.Answer.{freshAnswer, freshRoom, feedAnswer, feedRoom, tagAnswer, tagRoom};
+ghost use Rattle.paper.specs.Answer.{candidateAnswer, candidateData, askAnswer, askData, resetAnswer, resetRoom};
 ghost use Rattle.paper.specs.Time.{addSeconds, addSubframes, subframeOf, isSubframe, difference};
-ghost use Rattle.gst.specs.Answer.{answerOf as timeOf, startAnswer, apartAnswer};
-ghost use Rattle.refusals.specs.Reply.{answerOf};
-ghost use Rattle.tags.specs.Place.{taggedAnswer};
+ghost use Rattle.gst.specs.Answer.{timeAnswer, startAnswer, apartAnswer};
+ghost use Rattle.refusals.specs.Reply.{replyAnswer, numberOf};
+ghost use Rattle.tags.specs.Candidates.{taggedAnswer};
 ghost use Rattle.ffi.specs.Handed.{takenOf, shownOf, toldOf, momentOf, markOf, spanOf};
 ghost use Rattle.ffi.specs.Offset.{candidateOffset, askOffset};
-use ask::Asked;
+use ask::Answered;
 use gst::Apart;
 use gst::Gst;
 use gst::NewTime;
 use gst::Start;
 use gst::Tow;
 use gst::Wn;
-use records::Ced;
-use records::Timing;
+use limits::TIMING_KIND;
+use refusals::Refusal;
 use refusals::Reply;
 use svn::Svn;
-use tags::Place;
+use tags::Candidate;
 use tags::Tagged;
 
 // What a tag came to: its number, and how many records took it.
@@ -78,7 +79,7 @@ pub struct Span {
 }
 
 fn reply_number(reply: Reply) -> u8
-    ensures { λ r. ⌜ r ≡ number (answerOf reply) ⌝ }
+    ensures { λ r. ⌜ r ≡ number (replyAnswer reply) ⌝ }
 {
     match reply {
         Reply::Done => 0,
@@ -98,23 +99,6 @@ fn of_tag(tagged: Tagged) -> Taken
     }
 }
 
-// Where the data of a record starts in it.
-fn data_at(timing: bool) -> usize
-    ensures { λ r. ⌜ r ≡ dataAt (familyIf timing) ⌝ }
-{
-    if timing {
-        Timing::SIZE - Timing::BYTES
-    } else {
-        Ced::SIZE - Ced::BYTES
-    }
-}
-
-fn data_bytes(timing: bool) -> usize
-    ensures { λ r. ⌜ r ≡ dataBytes (familyIf timing) ⌝ }
-{
-    if timing { Timing::BYTES } else { Ced::BYTES }
-}
-
 // The bytes that a store of d rows and n slots takes; 0 for sizes that are not allowed.
 #[no_mangle]
 pub extern "C" fn dawnstook_room_size(d: u8, n: u8) -> usize
@@ -123,13 +107,14 @@ pub extern "C" fn dawnstook_room_size(d: u8, n: u8) -> usize
     if !limits::sizes_allowed(d, n) {
         return 0;
     }
-    rows::row_start(rows::wide(n), rows::wide(d))
+    rows::room_size(numbers::as_usize(d), numbers::as_usize(n))
 }
 
 // A fresh store of d rows and n slots at the start of the room.
 #[no_mangle]
 pub extern "C" fn dawnstook_fresh(room: &mut [u8], d: u8, n: u8) -> u8
-    ensures { λ r. ⌜ (r ≡ number (freshAnswer d n (now (room .entry)))) × (now (room .exit) ≡ freshRoom d n (now (room .entry))) ⌝ }
+    ensures { λ r. ⌜ (r ≡ number (freshAnswer d n (now (room .entry))))
+        × (now (room .exit) ≡ freshRoom d n (now (room .entry))) ⌝ }
 {
     reply_number(navmessage::fresh(room, d, n))
 }
@@ -144,7 +129,8 @@ pub extern "C" fn dawnstook_feed(
     time: u32,
     band: u8,
 ) -> u8
-    ensures { λ r. ⌜ (r ≡ number (feedAnswer (now (word .entry)) sat time band (now (room .entry)))) × (now (room .exit) ≡ feedRoom (now (word .entry)) sat week time band (now (room .entry))) ⌝ }
+    ensures { λ r. ⌜ (r ≡ number (feedAnswer (now (word .entry)) sat time band (now (room .entry))))
+        × (now (room .exit) ≡ feedRoom (now (word .entry)) sat week time band (now (room .entry))) ⌝ }
 {
     let gst = Gst {
         wn: Wn(week),
@@ -167,8 +153,10 @@ pub extern "C" fn dawnstook_tag(
     given: &[u8],
     verdict: bool,
 ) -> Taken
-    ensures { λ r. ⌜ r ≡ takenOf (tagAnswer sat kind cop bits status week time (now (given .entry)) verdict (now (room .entry))) ⌝ }
-    ensures { λ _. ⌜ now (room .exit) ≡ tagRoom sat kind cop bits status week time (now (given .entry)) verdict (now (room .entry)) ⌝ }
+    ensures { λ r. ⌜ r
+        ≡ takenOf (tagAnswer sat kind cop bits status week time (now (given .entry)) verdict (now (room .entry))) ⌝ }
+    ensures { λ _. ⌜ now (room .exit)
+        ≡ tagRoom sat kind cop bits status week time (now (given .entry)) verdict (now (room .entry)) ⌝ }
 {
     let mack = Gst {
         wn: Wn(week),
@@ -197,22 +185,23 @@ pub extern "C" fn dawnstook_candidate(
     week: u16,
     time: u32,
 ) -> Shown
-    ensures { λ r. ⌜ r ≡ shownOf (candidateAnswer sat kind cop week time (now (room .entry))) (candidateOffset sat kind cop week time (now (room .entry))) (length (candidateData sat kind cop week time (now (room .entry)))) ⌝ }
+    ensures { λ r. ⌜ r
+        ≡ shownOf (candidateAnswer sat kind cop week time (now (room .entry)))
+        (candidateOffset sat kind cop week time (now (room .entry)))
+        (length (candidateData sat kind cop week time (now (room .entry)))) ⌝ }
     ensures { λ r. ⌜ part (r .offset) (r .bytes) (now (room .entry)) ≡ candidateData sat kind cop week time (now (room .entry)) ⌝ }
 {
     let mack = Gst {
         wn: Wn(week),
         tow: Tow(time),
     };
-    let allowed = limits::cop_allowed(cop);
-    let known = limits::kind_known(kind);
-    match tags::candidate_place(room, Svn(sat), kind, cop, mack, allowed, known) {
-        Place::At(at) => Shown {
+    match tags::candidate_shown(room, Svn(sat), kind, cop, mack) {
+        Candidate::At(at) => Shown {
             number: 0,
-            offset: at + data_at(kind == tags::TIMING),
-            bytes: data_bytes(kind == tags::TIMING),
+            offset: at + records::data_at(kind == TIMING_KIND),
+            bytes: records::bytes_of(kind == TIMING_KIND),
         },
-        Place::Refused(why) => Shown {
+        Candidate::Refused(why) => Shown {
             number: refusals::number(why),
             offset: 0,
             bytes: 0,
@@ -220,50 +209,38 @@ pub extern "C" fn dawnstook_candidate(
     }
 }
 
-// A refusal: "any number beside them is 0", and the part is empty.
-fn not_told(why: u8) -> Told
-    ensures { λ r. ⌜ r ≡ toldOf (refused why) 0 0 ⌝ }
-{
-    Told {
-        number: why,
-        authbits: 0,
-        week: 0,
-        time: 0,
-        offset: 0,
-        bytes: 0,
-    }
-}
-
-// "Asking 3, 4, 12, 7"
 fn tell(room: &[u8], timing: bool, sat: u8) -> Told
-    ensures { λ r. ⌜ r ≡ toldOf (askAnswer (familyIf timing) sat (now (room .entry))) (askOffset (familyIf timing) sat (now (room .entry))) (length (askData (familyIf timing) sat (now (room .entry)))) ⌝ }
+    ensures { λ r. ⌜ r
+        ≡ toldOf (askAnswer (familyIf timing) sat (now (room .entry)))
+        (askOffset (familyIf timing) sat (now (room .entry)))
+        (length (askData (familyIf timing) sat (now (room .entry)))) ⌝ }
     ensures { λ r. ⌜ part (r .offset) (r .bytes) (now (room .entry)) ≡ askData (familyIf timing) sat (now (room .entry)) ⌝ }
 {
-    if !store::is_store(room) {
-        return not_told(3);
-    }
-    let svn = Svn(sat);
-    if !svn.is_satellite() {
-        return not_told(4);
-    }
-    match ask::ask(room, timing, sat) {
-        Asked::Told(at, authbits, gst) => Told {
+    match ask::ask(room, timing, Svn(sat)) {
+        Answered::Record(at, authbits, gst) => Told {
             number: 0,
             authbits,
             week: gst.wn.0,
             time: gst.tow.0,
-            offset: at + data_at(timing),
-            bytes: data_bytes(timing),
+            offset: at + records::data_at(timing),
+            bytes: records::bytes_of(timing),
         },
-        Asked::NotEnough => not_told(12),
-        Asked::OutOfTime => not_told(7),
+        Answered::Refused(why) => Told {
+            number: refusals::number(why),
+            authbits: 0,
+            week: 0,
+            time: 0,
+            offset: 0,
+            bytes: 0,
+        },
     }
 }
 
 // Authenticated ephemeris, clock and status of a satellite.
 #[no_mangle]
 pub extern "C" fn dawnstook_get_ced_and_status(room: &[u8], sat: u8) -> Told
-    ensures { λ r. ⌜ r ≡ toldOf (askAnswer CED sat (now (room .entry))) (askOffset CED sat (now (room .entry))) (length (askData CED sat (now (room .entry)))) ⌝ }
+    ensures { λ r. ⌜ r
+        ≡ toldOf (askAnswer CED sat (now (room .entry))) (askOffset CED sat (now (room .entry))) (length (askData CED sat (now (room .entry)))) ⌝ }
     ensures { λ r. ⌜ part (r .offset) (r .bytes) (now (room .entry)) ≡ askData CED sat (now (room .entry)) ⌝ }
 {
     tell(room, false, sat)
@@ -272,8 +249,9 @@ pub extern "C" fn dawnstook_get_ced_and_status(room: &[u8], sat: u8) -> Told
 // Authenticated timing parameters of a satellite.
 #[no_mangle]
 pub extern "C" fn dawnstook_get_timing_parameters(room: &[u8], sat: u8) -> Told
-    ensures { λ r. ⌜ r ≡ toldOf (askAnswer TIMING sat (now (room .entry))) (askOffset TIMING sat (now (room .entry))) (length (askData TIMING sat (now (room .entry)))) ⌝ }
-    ensures { λ r. ⌜ part (r .offset) (r .bytes) (now (room .entry)) ≡ askData TIMING sat (now (room .entry)) ⌝ }
+    ensures { λ r. ⌜ r
+        ≡ toldOf (askAnswer Timing sat (now (room .entry))) (askOffset Timing sat (now (room .entry))) (length (askData Timing sat (now (room .entry)))) ⌝ }
+    ensures { λ r. ⌜ part (r .offset) (r .bytes) (now (room .entry)) ≡ askData Timing sat (now (room .entry)) ⌝ }
 {
     tell(room, true, sat)
 }
@@ -281,13 +259,25 @@ pub extern "C" fn dawnstook_get_timing_parameters(room: &[u8], sat: u8) -> Told
 // All counts put to 0.
 #[no_mangle]
 pub extern "C" fn dawnstook_reset_authbits(room: &mut [u8]) -> u8
-    ensures { λ r. ⌜ (r ≡ number (resetAnswer (now (room .entry)))) × (now (room .exit) ≡ resetRoom (now (room .entry))) ⌝ }
+    ensures { λ r. ⌜ (r ≡ number (resetAnswer (now (room .entry))))
+        × (now (room .exit) ≡ resetRoom (now (room .entry))) ⌝ }
 {
     reply_number(navmessage::reset_authbits(room))
 }
 
+// A refusal: "any number beside them is 0".
+fn no_moment(why: Refusal) -> Moment
+    ensures { λ r. ⌜ r ≡ momentOf (refused (numberOf why)) ⌝ }
+{
+    Moment {
+        number: refusals::number(why),
+        week: 0,
+        time: 0,
+    }
+}
+
 fn of_time(time: NewTime) -> Moment
-    ensures { λ r. ⌜ r ≡ momentOf (timeOf time) ⌝ }
+    ensures { λ r. ⌜ r ≡ momentOf (timeAnswer time) ⌝ }
 {
     match time {
         NewTime::Time(gst) => Moment {
@@ -295,16 +285,8 @@ fn of_time(time: NewTime) -> Moment
             week: gst.wn.0,
             time: gst.tow.0,
         },
-        NewTime::NoTime => Moment {
-            number: 5,
-            week: 0,
-            time: 0,
-        },
-        NewTime::OutOfRange => Moment {
-            number: 7,
-            week: 0,
-            time: 0,
-        },
+        NewTime::NoTime => no_moment(Refusal::NoTime),
+        NewTime::OutOfRange => no_moment(Refusal::OutOfTime),
     }
 }
 
@@ -357,7 +339,7 @@ fn of_start(start: Start) -> Mark
             start: 0,
         },
         Start::NoTime => Mark {
-            number: 5,
+            number: refusals::number(Refusal::NoTime),
             start: 0,
         },
     }
@@ -384,7 +366,7 @@ fn of_apart(apart: Apart) -> Span
             subframes,
         },
         Apart::NoTime => Span {
-            number: 5,
+            number: refusals::number(Refusal::NoTime),
             subframes: 0,
         },
     }

@@ -2,34 +2,47 @@
 -- records, and the header. Assumes nothing.
 use native.Mathlib.Omega.{arith}
 use mathlib.Core.Path.{_≡_, refl, sym, ap, _∙_}
-use mathlib.Core.List.{List, [], _++_}
+use mathlib.Core.List.{List, [], _++_, append-nil}
 use Prim.Native.Nat.{ℕ, _+_, _-_, _≤_}
-use lib.ListN.{length, take, drop, set, replicate, length-drop, drop-of-length-le}
-use Rattle.paper.proofs.Parts.{length-part}
+use lib.ListN.{length, take, drop, set, replicate, length-drop, length-replicate, drop-of-length-le}
+use lib.Seq.{take-at, drop-at}
+use Rattle.paper.proofs.Parts.{length-part, length-lent, part-back}
+use Rattle.paper.proofs.Lengths.{length-blank}
 use Rattle.paper.specs.Fresh.{header, blankSlot}
 use Rattle.paper.specs.Parts.{onPart}
-use Rattle.paper.specs.Record.{Family, CED, Timing, size, ages, blankRecord}
+use Rattle.paper.specs.Record.{Family, CED, Timing, agesAt, size, ages, oldest, neverThere, blankRecord}
+use Rattle.paper.specs.Room.{depthAt, slotsAt, headerSize, slotSize}
 
--- the ages of a record of zeros made 255
+-- the ages of a record of zeros made the oldest
 pub record-blank : (f : Family) (words k : ℕ) (z y : List ℕ) → k ≡ size f → words ≡ ages f → z ≡ replicate k 0
-    → y ≡ replicate (length (take (3 + words - 3) (drop 3 z))) 255 → take 3 z ++ (y ++ drop (3 + words - 3) (drop 3 z)) ≡ blankRecord f
+    → y ≡ replicate (length (take (agesAt + words - agesAt) (drop agesAt z))) oldest
+    → take agesAt z ++ (y ++ drop (agesAt + words - agesAt) (drop agesAt z)) ≡ blankRecord f
 unfolding blankRecord
-record-blank CED words k z y l w p q = let e : z ≡ replicate 77 0 = p ∙ ap (λ (j : ℕ). replicate j 0) l in rw (q, w, e)
-record-blank Timing words k z y l w p q = let e : z ≡ replicate 23 0 = p ∙ ap (λ (j : ℕ). replicate j 0) l in rw (q, w, e)
+record-blank f words k z y l w p q =
+    let e : z ≡ replicate (size f) 0 = p ∙ ap (λ (j : ℕ). replicate j 0) l in
+    let n : length z ≡ size f = ap length e ∙ length-replicate (size f) 0 in
+    let m : length (take (agesAt + words - agesAt) (drop agesAt z)) ≡ ages f = length-lent agesAt words z (omega arith) ∙ w in
+    part-back (λ (_ : List ℕ). replicate (ages f) oldest) agesAt (ages f) (agesAt + words - agesAt) z y (omega arith)
+    (q ∙ ap (λ (j : ℕ). replicate j oldest) m)
+    ∙ ap (neverThere f) e
 
 -- its two records blanked, one after the other
-pub slot-blank : (slot c t : List ℕ) → length slot ≡ 100 → c ≡ blankRecord CED
-    → (length (take 23 (drop 77 (c ++ drop 77 slot))) ≡ 23 → t ≡ blankRecord Timing)
-    → take 77 (c ++ drop 77 slot) ++ (t ++ drop 23 (drop 77 (c ++ drop 77 slot))) ≡ blankSlot
-unfolding blankSlot blankRecord
+pub slot-blank : (slot c t : List ℕ) → length slot ≡ slotSize → c ≡ blankRecord CED
+    → (length (take (size Timing) (drop (size CED) (c ++ drop (size CED) slot))) ≡ size Timing → t ≡ blankRecord Timing)
+    → take (size CED) (c ++ drop (size CED) slot) ++ (t ++ drop (size Timing) (drop (size CED) (c ++ drop (size CED) slot))) ≡ blankSlot
+unfolding blankSlot
 slot-blank slot c t l p q =
-    let r = length-drop 77 slot in
-    let h : length (drop 77 slot) ≤ 23 = omega arith in
-    let e : drop 23 (drop 77 slot) ≡ [] = drop-of-length-le (drop 77 slot) h in
-    rw (q (rw p (length-part 77 23 slot (omega arith))), p, e)
+    let n : length c ≡ size CED = ap length p ∙ length-blank CED in
+    let behind : drop (size CED) (c ++ drop (size CED) slot) ≡ drop (size CED) slot = drop-at c (drop (size CED) slot) (size CED) n in
+    let h : length (drop (size CED) slot) ≤ size Timing = omega (arith, length-drop (size CED) slot) in
+    let e : drop (size Timing) (drop (size CED) slot) ≡ [] = drop-of-length-le (drop (size CED) slot) h in
+    let s : t ≡ blankRecord Timing = q (rw behind (length-part (size CED) (size Timing) slot (omega arith))) in
+    rw (behind, take-at c (drop (size CED) slot) (size CED) n, e, p, s, append-nil)
 
 -- D and N before the zeros
-pub header-put : (d n : ℕ) (room y : List ℕ) → 8 ≤ length room → y ≡ replicate (length (take 8 (drop 0 room))) 0
-    → set (set (take 0 room ++ (y ++ drop 8 (drop 0 room))) 0 d) 1 n ≡ onPart (λ _. header d n) 0 8 room
+pub header-put : (d n : ℕ) (room y : List ℕ) → headerSize ≤ length room → y ≡ replicate (length (take headerSize (drop 0 room))) 0
+    → set (set (take 0 room ++ (y ++ drop headerSize (drop 0 room))) depthAt d) slotsAt n ≡ onPart (λ _. header d n) 0 headerSize room
 unfolding onPart
-header-put d n room y h p = let e : length (take 8 (drop 0 room)) ≡ 8 = length-part 0 8 room h in rw (p, e)
+header-put d n room y h p =
+    let e : length (take headerSize (drop 0 room)) ≡ headerSize = length-part 0 headerSize room h in
+    rw (p, e)

@@ -5,13 +5,17 @@ ghost use Prim.Native.Nat.{_+_, _≤_, _<_};
 ghost use lib.ListN.{length, replicate};
 ghost use Rattle.paper.specs.Fresh.{header, blankSlot, blankRow, fresh};
 ghost use Rattle.paper.specs.Parts.{onPart, onParts};
-ghost use Rattle.paper.specs.Record.{Family, ages, size, blankRecord};
-ghost use Rattle.paper.specs.Room.{slotSize, rowSize, roomSize};
+ghost use Rattle.paper.specs.Record.{Family, ages, agesAt, size, blankRecord};
+ghost use Rattle.paper.specs.Room.{headerSize, headSize, slotSize, rowSize, roomSize};
+use layout::DEPTH_AT;
 use layout::HEADER;
 use layout::ROW_HEAD;
 use layout::SLOT;
+use layout::SLOTS_AT;
 use layout::TIMING_AT;
+use records::AGES_AT;
 use records::Ced;
+use records::OLDEST;
 use records::Timing;
 
 // Every byte made x.
@@ -27,12 +31,12 @@ fn fill(bytes: &mut [u8], x: u8)
 
 // For the family whose length and number of words it has: the ages stand behind the satellite and the count.
 fn blank_record(bytes: &mut [u8], words: usize)
-    requires { ⌜ 3 + words ≤ length (now bytes) ⌝ }
+    requires { ⌜ agesAt + words ≤ length (now bytes) ⌝ }
     ensures { λ _. ⌜ ((f : Family) → length (now (bytes .entry)) ≡ size f → words ≡ ages f → now (bytes .exit) ≡ blankRecord f) ⌝ }
 {
     fill(bytes, 0);
-    let e = 3 + words;
-    fill(&mut bytes[3..e], 255);
+    let e = AGES_AT + words;
+    fill(&mut bytes[AGES_AT..e], OLDEST);
 }
 
 fn blank_slot(slot: &mut [u8])
@@ -45,7 +49,7 @@ fn blank_slot(slot: &mut [u8])
 
 fn blank_slots(row: &mut [u8], n: usize)
     requires { ⌜ rowSize n ≤ length (now row) ⌝ }
-    ensures { λ _. ⌜ now (row .exit) ≡ onParts (λ _. blankSlot) slotSize n 8 (now (row .entry)) ⌝ }
+    ensures { λ _. ⌜ now (row .exit) ≡ onParts (λ _. blankSlot) slotSize n headSize (now (row .entry)) ⌝ }
 {
     let mut at = ROW_HEAD;
     let mut left = n;
@@ -67,7 +71,7 @@ fn blank_row(row: &mut [u8], n: usize)
 
 fn blank_rows(room: &mut [u8], d: usize, n: usize)
     requires { ⌜ (n < 256) × (roomSize d n ≤ length (now room)) ⌝ }
-    ensures { λ _. ⌜ now (room .exit) ≡ onParts (blankRow n) (rowSize n) d 8 (now (room .entry)) ⌝ }
+    ensures { λ _. ⌜ now (room .exit) ≡ onParts (blankRow n) (rowSize n) d headerSize (now (room .entry)) ⌝ }
 {
     let row = rows::row_size(n);
     let mut at = HEADER;
@@ -81,12 +85,12 @@ fn blank_rows(room: &mut [u8], d: usize, n: usize)
 }
 
 fn put_header(room: &mut [u8], d: u8, n: u8)
-    requires { ⌜ 8 ≤ length (now room) ⌝ }
-    ensures { λ _. ⌜ now (room .exit) ≡ onPart (λ _. header d n) 0 8 (now (room .entry)) ⌝ }
+    requires { ⌜ headerSize ≤ length (now room) ⌝ }
+    ensures { λ _. ⌜ now (room .exit) ≡ onPart (λ _. header d n) 0 headerSize (now (room .entry)) ⌝ }
 {
     fill(&mut room[0..HEADER], 0);
-    room[0] = d;
-    room[1] = n;
+    room[DEPTH_AT] = d;
+    room[SLOTS_AT] = n;
 }
 
 // The room with a fresh store of D rows and N slots at its start; its bytes past the formula's length stay.
@@ -95,5 +99,5 @@ pub fn fresh_room(room: &mut [u8], d: u8, n: u8)
     ensures { λ _. ⌜ now (room .exit) ≡ fresh d n (now (room .entry)) ⌝ }
 {
     put_header(room, d, n);
-    blank_rows(room, rows::wide(d), rows::wide(n));
+    blank_rows(room, numbers::as_usize(d), numbers::as_usize(n));
 }

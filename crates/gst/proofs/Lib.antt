@@ -1,6 +1,6 @@
 -- The laws that the proofs of `gst` and its callers cite.
-pub mod Integers
 pub mod Sums
 pub mod OneToOne
 pub mod Told
 pub mod Determined
+pub mod Asks

@@ -5,7 +5,7 @@ use mathlib.Core.List.{[], _∷_}
 use lib.Dec.{eqb}
 use Rattle.paper.specs.Number.{Answer, done, refused}
 use Rattle.paper.specs.Time.{Difference, subframes, noDifference}
-use Rattle.gst.specs.Answer.{answerOf, startAnswer, apartAnswer}
+use Rattle.gst.specs.Answer.{timeAnswer, startAnswer, apartAnswer}
 use Rattle.gst.specs.declared.NewTime.{NewTime}
 use Rattle.gst.specs.declared.NewTime.the-variants.{Time, NoTime, OutOfRange}
 use Rattle.gst.specs.declared.Start.{Start}
@@ -20,12 +20,12 @@ newTimeOf (done (w ∷ [])) = NoTime
 newTimeOf (done (w ∷ t ∷ l)) = Time (record { wn = record { 0 = w }; tow = record { 0 = t } })
 newTimeOf (refused k) = cond (eqb k 5) NoTime OutOfRange
 
-newTimeOf-answerOf : (r : NewTime) → newTimeOf (answerOf r) ≡ r
+newTimeOf-answerOf : (r : NewTime) → newTimeOf (timeAnswer r) ≡ r
 newTimeOf-answerOf (Time g) = refl
 newTimeOf-answerOf NoTime = refl
 newTimeOf-answerOf OutOfRange = refl
 
-pub new-time-one : (r r' : NewTime) → answerOf r ≡ answerOf r' → r ≡ r'
+pub new-time-one : (r r' : NewTime) → timeAnswer r ≡ timeAnswer r' → r ≡ r'
 new-time-one r r' e = sym (newTimeOf-answerOf r) ∙ ap newTimeOf e ∙ newTimeOf-answerOf r'
 
 -- whether it is a start from its number and value

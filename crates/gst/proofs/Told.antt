@@ -13,7 +13,7 @@ use types.Run.{OneOf}
 use denote.Enum.Declared.{tagOf}
 use Rattle.paper.specs.Number.{Answer, done, refused, number}
 use Rattle.paper.specs.Time.{isTime, isStart, startOf, weekSeconds, lastWeek, secondsOf, timeAt, sumOf, addSeconds, subframeOf, isSubframe}
-use Rattle.gst.specs.Answer.{answerOf, startAnswer}
+use Rattle.gst.specs.Answer.{timeAnswer, startAnswer}
 use Rattle.gst.specs.declared.Gst.{Gst}
 use Rattle.gst.specs.declared.NewTime.{NewTime}
 use Rattle.gst.specs.declared.NewTime.the-variants.{Time, NoTime, OutOfRange}
@@ -21,7 +21,7 @@ use Rattle.gst.specs.declared.Start.the-variants.{Yes, No, NoTime as NoS
 use Rattle.gst.proofs.NewTime.{the-type}
 
 -- the arm of `let NewTime::Time(..) = .. else`: the number is not 0
-pub refuses : (r : NewTime) → OneOf (1 ∷ 2 ∷ []) (tagOf the-type r) → eqb (number (answerOf r)) 0 ≡ false
+pub refuses : (r : NewTime) → OneOf (1 ∷ 2 ∷ []) (tagOf the-type r) → eqb (number (timeAnswer r)) 0 ≡ false
 refuses (Time g) k = absurd (⊎-elim (λ e. omega arith) (λ e. omega arith) k)
 refuses NoTime k = refl
 refuses OutOfRange k = refl
@@ -29,20 +29,20 @@ refuses OutOfRange k = refl
 -- a cut time: the time asked is one, and this is the start of its subframe
 pub cut-time :
     (w t : ℕ) (g : Gst) →
-    answerOf (Time g) ≡ subframeOf w t → (isTime t ≡ true) × ((g .wn .0 ≡ w) × (g .tow .0 ≡ startOf t))
+    timeAnswer (Time g) ≡ subframeOf w t → (isTime t ≡ true) × ((g .wn .0 ≡ w) × (g .tow .0 ≡ startOf t))
 unfolding subframeOf
 cut-time w t g e = go (isTime t) e
   where
     go :
         (b : Bool) →
-        answerOf (Time g) ≡ cond b (done (w ∷ startOf t ∷ [])) (refused 5) →
+        timeAnswer (Time g) ≡ cond b (done (w ∷ startOf t ∷ [])) (refused 5) →
         (b ≡ true) × ((g .wn .0 ≡ w) × (g .tow .0 ≡ startOf t))
     go true h = (refl, (cc, cc))
     go false h = absurd (let z : _≡_ {A = ℕ} 0 1 = cc in omega arith)
 
 -- none: the time asked is none
 pub cut-none :
-    (w t : ℕ) (r : NewTime) → answerOf r ≡ subframeOf w t → eqb (number (answerOf r)) 0 ≡ false → isTime t ≡ false
+    (w t : ℕ) (r : NewTime) → timeAnswer r ≡ subframeOf w t → eqb (number (timeAnswer r)) 0 ≡ false → isTime t ≡ false
 unfolding subframeOf
 cut-none w t r e n = go (isTime t) (ap (λ (a : Answer). eqb (number a) 0) (sym e) ∙ n)
   where

@@ -9,14 +9,14 @@ use Rattle.gst.specs.declared.Start.{Start}
 use Rattle.gst.specs.declared.Start.the-variants.{Yes, No, NoTime as NoStart}
 use Rattle.gst.specs.declared.Apart.{Apart}
 use Rattle.gst.specs.declared.Apart.the-variants.{Subframes, NoTime as NoApart}
-use Rattle.gst.specs.declared.Call.{Call}
-use Rattle.gst.specs.declared.Call.the-variants.{AddSeconds, AddSubframes, Subframe}
+use Rattle.gst.specs.declared.Link.{Link}
+use Rattle.gst.specs.declared.Link.the-variants.{AddSeconds, AddSubframes, Subframe}
 
 -- a new time: 0 with its week and its time of week; 5; 7
-abbrev pub answerOf : NewTime → Answer
-answerOf (Time g) = done (g .wn .0 ∷ g .tow .0 ∷ [])
-answerOf NoTime = refused 5
-answerOf OutOfRange = refused 7
+abbrev pub timeAnswer : NewTime → Answer
+timeAnswer (Time g) = done (g .wn .0 ∷ g .tow .0 ∷ [])
+timeAnswer NoTime = refused 5
+timeAnswer OutOfRange = refused 7
 
 -- is it a start: 0 with 1 for yes and 0 for no; 5
 abbrev pub startAnswer : Start → Answer
@@ -30,10 +30,10 @@ apartAnswer (Subframes n) = subframes n
 apartAnswer NoApart = noDifference 5
 
 -- what a call hands back for a week and a time of week
-abbrev pub called : Call → ℕ → ℕ → Answer
-called (AddSeconds s) w t = addSeconds w t s
-called (AddSubframes k) w t = addSubframes w t k
-called Subframe w t = subframeOf w t
+abbrev pub linked : Link → ℕ → ℕ → Answer
+linked (AddSeconds s) w t = addSeconds w t s
+linked (AddSubframes k) w t = addSubframes w t k
+linked Subframe w t = subframeOf w t
 
 -- a call on an answer: of the time where there is one, and else the refusal as it came
 abbrev pub chained : NewTime → (ℕ → ℕ → Answer) → Answer

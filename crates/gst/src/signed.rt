@@ -1,4 +1,6 @@
 // The signed numbers of the calls: only these functions compute with i32, the others with naturals.
+use crate::SUBFRAME_SECONDS;
+use crate::WEEK_SECONDS;
 ghost use mathlib.Core.Path.{_≡_};
 ghost use mathlib.Core.Bool.{not};
 ghost use Prim.Native.Nat.{_*_, _≤_, _<_};
@@ -6,9 +8,9 @@ ghost use lib.IntN.{pos, natAbs, _-ℤ_, _*ℤ_};
 ghost use lib.Signed.{nonNeg, quotZ};
 ghost use Rattle.paper.specs.Time.{subframeSeconds, weekSubframes, mostSubframes, weekSeconds};
 
-const SUBFRAME_SECONDS: i32 = 30;
+const SUBFRAME: i32 = SUBFRAME_SECONDS as i32;
 
-const WEEK_SUBFRAMES: i32 = 20160;
+const WEEK_SUBFRAMES: i32 = (WEEK_SECONDS / SUBFRAME_SECONDS) as i32;
 
 // Whether x is below 0.
 pub(crate) fn below_zero(x: i32) -> bool
@@ -17,23 +19,12 @@ pub(crate) fn below_zero(x: i32) -> bool
     x < 0
 }
 
-// x without its sign: the least i32 has a size too.
-pub(crate) fn size(x: i32) -> u32
-    ensures { λ r. ⌜ r ≡ natAbs x ⌝ }
-{
-    let wide = x as i64;
-    if wide < 0 {
-        return (0 - wide) as u32;
-    }
-    wide as u32
-}
-
 // The seconds of so many subframes: as many as document 01 allows fit.
 pub(crate) fn in_seconds(subframes: i32) -> i32
     requires { ⌜ natAbs subframes ≤ mostSubframes ⌝ }
     ensures { λ r. ⌜ r ≡ subframes *ℤ pos subframeSeconds ⌝ }
 {
-    subframes * SUBFRAME_SECONDS
+    subframes * SUBFRAME
 }
 
 // The subframes of the weeks apart.
@@ -48,5 +39,5 @@ pub(crate) fn times_apart(time: u32, other: u32) -> i32
     requires { ⌜ (time < weekSeconds) × (other < weekSeconds) ⌝ }
     ensures { λ r. ⌜ (r ≡ quotZ (pos time -ℤ pos other) (pos subframeSeconds)) × (natAbs r < weekSeconds) ⌝ }
 {
-    ((time as i32) - (other as i32)) / SUBFRAME_SECONDS
+    ((time as i32) - (other as i32)) / SUBFRAME
 }

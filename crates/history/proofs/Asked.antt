@@ -17,7 +17,7 @@ use Rattle.paper.specs.Answer.{askNumber, askAnswer, askData}
 use Rattle.paper.specs.Call.{askCall, answerTo, partTo}
 use Rattle.paper.proofs.First.{first-holds}
 use Rattle.paper.proofs.StoreFacts.{both-true, store-facts}
-use Rattle.stays.proofs.Rooms.{unless-zero}
+use Rattle.paper.proofs.Order.{unless-zero}
 use Rattle.stays.proofs.Stays.{number-answer}
 use Rattle.history.specs.Line.{Place, Inside, at}
 
@@ -38,9 +38,9 @@ module _ (f : Family) (sat : ℕ) (room : List ℕ) (e : number (answerTo (askCa
   allowed : (isStore room ≡ true) × (someEnough f sat room ≡ true)
   unfolding askNumber
   allowed =
-      let a = unless-zero (isStore room) 3 _ (λ z. omega (arith, z)) number-zero in
-      let b = unless-zero (isSatellite sat) 4 _ (λ z. omega (arith, z)) (a .1) in
-      let c = unless-zero (someEnough f sat room) 12 _ (λ z. omega (arith, z)) (b .1) in
+      let a = unless-zero (isStore room) 3 _ (omega arith) number-zero in
+      let b = unless-zero (isSatellite sat) 4 _ (omega arith) (a .1) in
+      let c = unless-zero (someEnough f sat room) 12 _ (omega arith) (b .1) in
       (a .0, c .0)
 
   steps-in : stepsBack f sat room < depth room

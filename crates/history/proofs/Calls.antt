@@ -13,25 +13,26 @@ use lib.ListN.{length}
 use Rattle.paper.specs.Number.{number}
 use Rattle.paper.specs.Time.{startOf, isTime, isStart}
 use Rattle.paper.specs.Satellite.{isSatellite}
-use Rattle.paper.specs.Record.{Family, CED, Timing, size, dataBytes, satellite, count, dataOf, sameBits, aged}
-use Rattle.paper.specs.Room.{depth, slots, current, rowOf, recordOf}
+use Rattle.paper.specs.Record.{Family, CED, Timing, size, dataBytes, satellite, count, dataOf, sameBits, aged, mostCount, sameFamily, agesAt}
+use Rattle.paper.specs.Room.{depth, slots, current, rowOf, recordOf, depthAt, slotsAt}
 use Rattle.paper.specs.Word.{fedRecord}
-use Rattle.paper.specs.Store.{isStore}
+use Rattle.paper.specs.Store.{InRange, isStore}
 use Rattle.paper.specs.Fresh.{fresh}
 use Rattle.paper.specs.Feed.{moves, chosen, fed}
-use Rattle.paper.specs.Tag.{familyOf, kindKnown, statusKnown, copAllowed, lengthAllowed, thirtyBefore, candidateRecord, hasCandidate, givenAgrees, matches, mostCount, tagged, takenBy}
+use Rattle.paper.specs.Tag.{familyOf, kindKnown, statusKnown, copAllowed, lengthAllowed, thirtyBefore, candidateRecord, hasCandidate, givenAgrees, matches, tagged, takenBy}
 use Rattle.paper.specs.Reset.{reset}
 use Rattle.paper.specs.Answer.{freshNumber, freshRoom, feedNumber, feedRoom, untilCandidate, tagNumber, tagAnswer, tagRoom, resetNumber, resetRoom}
 use Rattle.paper.specs.Call.{freshCall, feedCall, tagCall, resetCall, answerTo, roomAfter}
-use Rattle.paper.proofs.Views.{Facts, length-rowOf, other, length-record, record-parts}
+use Rattle.paper.proofs.Views.{length-rowOf, other, length-record}
 use Rattle.paper.proofs.RecordViews.{withCount-count, aged-satellite, aged-count, aged-data, credited-satellite, credited-data, credited-count, blank-count}
 use Rattle.paper.proofs.WordViews.{rowAhead, rowSettled, rowTaken, rowTaken-length, rowTaken-record, fed-header, fed-record, fed-there}
 use Rattle.paper.proofs.CallViews.{fresh-depth, fresh-slots, fresh-record, tagged-header, tagged-record, tagged-other, reset-header, reset-record}
 use Rattle.paper.proofs.StoreFacts.{both-true, store-facts, store-record}
 use Rattle.stays.proofs.Rows.{either-family}
-use Rattle.stays.proofs.Rooms.{unless-zero, fresh-allowed, candidate-satellite}
+use Rattle.paper.proofs.Order.{unless-zero}
+use Rattle.stays.proofs.Rooms.{fresh-allowed, candidate-satellite}
 use Rattle.stays.proofs.Stays.{number-answer}
-use Rattle.history.specs.Line.{Place, Inside, at, succeeds, same, sameFamily}
+use Rattle.history.specs.Line.{Place, Inside, at, succeeds, same}
 use Rattle.history.proofs.Records.{Kept, Alike, alike-kept, kept-from, fed-kept}
 
 -- ---- the room after a call: changed where the call succeeds, else as it was
@@ -75,7 +76,7 @@ fresh-none d n room e place i =
 
 -- ---- a word
 module _ (w t sat band : ℕ) (word room : List ℕ) (s : isStore room ≡ true) where
-  F : Facts room
+  F : InRange room
   F = store-facts room s
 
   module _ (f : Family) (i : ℕ) (g : i < slots room) where
@@ -138,8 +139,8 @@ module _ (w t sat band : ℕ) (word room : List ℕ) (s : isStore room ≡ true)
 
   pub fed-inside : (place : Place) → Inside (fed w t sat band word room) place → Inside room place
   fed-inside place i =
-      inside-same room (fed w t sat band word room) place (fed-header w t sat band word room F 0 (omega arith) (omega arith))
-      (fed-header w t sat band word room F 1 (omega arith) (omega arith)) i
+      inside-same room (fed w t sat band word room) place (fed-header w t sat band word room F depthAt (omega arith) (omega arith))
+      (fed-header w t sat band word room F slotsAt (omega arith) (omega arith)) i
 
 -- ---- a tag
 -- what a tag of length l leaves of a record x: y, with the length added where it counts
@@ -170,8 +171,8 @@ module _ (g : Family) (candidate : List ℕ) (l : ℕ) (room : List ℕ) (s : is
     abbrev once : Family → List ℕ
     once f = recordOf f i (rowOf r (tagged g candidate l room))
 
-    long-enough : 3 ≤ length (untagged g)
-    long-enough = omega (arith, length-record g (slots room) i (rowOf r room) (length-rowOf room (store-facts room s) r h) b, record-parts g)
+    long-enough : agesAt ≤ length (untagged g)
+    long-enough = omega (arith, length-record g (slots room) i (rowOf r room) (length-rowOf room (store-facts room s) r h) b)
 
     tagged-own : Tagged g l (sameFamily g g && same g (untagged g) candidate) (untagged g) (once g)
     unfolding same matches
@@ -192,8 +193,8 @@ module _ (g : Family) (candidate : List ℕ) (l : ℕ) (room : List ℕ) (s : is
 
   pub tagged-inside : (place : Place) → Inside (tagged g candidate l room) place → Inside room place
   tagged-inside place i =
-      inside-same room (tagged g candidate l room) place (tagged-header g candidate l room (store-facts room s) 0 (omega arith))
-      (tagged-header g candidate l room (store-facts room s) 1 (omega arith)) i
+      inside-same room (tagged g candidate l room) place (tagged-header g candidate l room (store-facts room s) depthAt (omega arith))
+      (tagged-header g candidate l room (store-facts room s) slotsAt (omega arith)) i
 
 -- what a tag that was answered 0 had: a candidate of its satellite, given data of its bits, and the verdict yes
 pub record Accepted (f : Family) (sat : ℕ) (given : List ℕ) (verdict : Bool) (candidate : List ℕ) : Type 0 where
@@ -209,17 +210,17 @@ module _ (sat kind cop l status w t : ℕ) (given : List ℕ) (verdict : Bool) (
   number-accepted e =
       let f : Family = familyOf kind in
       let candidate : List ℕ = candidateRecord f sat w t room in
-      let n1 = unless-zero (isStore room) 3 _ (λ z. omega (arith, z)) e in
-      let n2 = unless-zero (isSatellite sat) 4 _ (λ z. omega (arith, z)) (n1 .1) in
-      let n3 = unless-zero (isTime t) 5 _ (λ z. omega (arith, z)) (n2 .1) in
-      let n4 = unless-zero (isStart t) 6 _ (λ z. omega (arith, z)) (n3 .1) in
-      let n5 = unless-zero (copAllowed cop && lengthAllowed l) 8 _ (λ z. omega (arith, z)) (n4 .1) in
-      let n6 = unless-zero (kindKnown kind && statusKnown status) 9 _ (λ z. omega (arith, z)) (n5 .1) in
-      let n7 = unless-zero (eqb (number (thirtyBefore w t)) 0) 7 _ (λ z. omega (arith, z)) (n6 .1) in
-      let n8 = unless-zero (not (eqb cop 0)) 16 _ (λ z. omega (arith, z)) (n7 .1) in
-      let n9 = unless-zero (hasCandidate f sat cop w t room) 10 _ (λ z. omega (arith, z)) (n8 .1) in
-      let n10 = unless-zero (givenAgrees f given candidate) 11 _ (λ z. omega (arith, z)) (n9 .1) in
-      let n11 = unless-zero verdict 17 _ (λ z. omega (arith, z)) (n10 .1) in
+      let n1 = unless-zero (isStore room) 3 _ (omega arith) e in
+      let n2 = unless-zero (isSatellite sat) 4 _ (omega arith) (n1 .1) in
+      let n3 = unless-zero (isTime t) 5 _ (omega arith) (n2 .1) in
+      let n4 = unless-zero (isStart t) 6 _ (omega arith) (n3 .1) in
+      let n5 = unless-zero (copAllowed cop && lengthAllowed l) 8 _ (omega arith) (n4 .1) in
+      let n6 = unless-zero (kindKnown kind && statusKnown status) 9 _ (omega arith) (n5 .1) in
+      let n7 = unless-zero (eqb (number (thirtyBefore w t)) 0) 7 _ (omega arith) (n6 .1) in
+      let n8 = unless-zero (not (eqb cop 0)) 16 _ (omega arith) (n7 .1) in
+      let n9 = unless-zero (hasCandidate f sat cop w t room) 10 _ (omega arith) (n8 .1) in
+      let n10 = unless-zero (givenAgrees f given candidate) 11 _ (omega arith) (n9 .1) in
+      let n11 = unless-zero verdict 17 _ (omega arith) (n10 .1) in
       let agree = both-true (eqb (length given) (dataBytes f)) (sameBits f given (dataOf f candidate)) (n10 .0) in
       record {
         satellites = candidate-satellite f sat cop w t room (n9 .0);
@@ -246,8 +247,12 @@ module _ (room : List ℕ) (s : isStore room ≡ true) where
   reset-none place i =
       ap count (reset-record room (store-facts room s) (place .row) (i .row) (place .family) (place .slot) (i .slot))
       ∙ withCount-count 0 (at room place)
-      (omega (arith, length-record (place .family) (slots room) (place .slot) (rowOf (place .row) room) (length-rowOf room (store-facts room s) (place .row) (i .row)) (i .slot), record-parts (place .family)))
+      (omega (
+        arith,
+        length-record (place .family) (slots room) (place .slot) (rowOf (place .row) room)
+            (length-rowOf room (store-facts room s) (place .row) (i .row)) (i .slot),
+      ))
 
   pub reset-inside : (place : Place) → Inside (reset room) place → Inside room place
   reset-inside place i =
-      inside-same room (reset room) place (reset-header room (store-facts room s) 0 (omega arith)) (reset-header room (store-facts room s) 1 (omega arith)) i
+      inside-same room (reset room) place (reset-header room (store-facts room s) depthAt (omega arith)) (reset-header room (store-facts room s) slotsAt (omega arith)) i

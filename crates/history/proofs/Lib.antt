@@ -4,6 +4,4 @@ pub mod Calls
 pub mod OneMore
 pub mod Asked
 pub mod Demand
-pub mod Claim
-pub mod Cap
 pub mod Steps

@@ -8,21 +8,22 @@ use native.Mathlib.Omega.{arith}
 use lib.Dec.{eqb}
 use borrow.Author.Tests.{not-false}
 use Rattle.paper.specs.Time.{startOf}
-use Rattle.paper.specs.Record.{Family, satellite, count, dataOf, inBits}
+use Rattle.paper.specs.Record.{Family, satellite, count, dataOf, inBits, mostCount, sameFamily}
 use Rattle.paper.specs.Room.{depth, current, rowOf, recordOf}
 use Rattle.paper.specs.Store.{isStore}
 use Rattle.paper.specs.Fresh.{fresh}
 use Rattle.paper.specs.Feed.{moves, fed}
-use Rattle.paper.specs.Tag.{familyOf, candidateRecord, mostCount, tagged}
+use Rattle.paper.specs.Tag.{familyOf, candidateRecord, tagged}
 use Rattle.paper.specs.Call.{Call, freshCall, feedCall, tagCall, candidateCall, askCall, resetCall, roomAfter}
 use Rattle.paper.proofs.WordViews.{rowAhead}
 use Rattle.paper.proofs.StoreFacts.{both-true, store-facts}
-use Rattle.history.specs.Line.{Place, Inside, at, succeeds, fills, past, resets, same, broken, begins, Tag, sameFamily, counted, total}
+use Rattle.history.specs.Line.{Place, Inside, at, succeeds, fills, past, resets, same, broken, begins, Tag, counted, total}
 use Rattle.history.specs.Demand.{EachFor, Earned}
 use Rattle.paper.proofs.Same.{bits-true, true-bits}
 use Rattle.history.proofs.Agree.{same-true, true-same}
 use Rattle.history.proofs.Records.{Kept, alike-kept}
-use Rattle.history.proofs.Calls.{fresh-after, feed-after, tag-after, reset-after, fresh-none, fed-at, fed-inside, Tagged, one-family, tagged-at, tagged-inside, Accepted, tag-accepted, reset-succeeds, reset-none, reset-inside}
+use Rattle.history.proofs.Calls.{fresh-after, feed-after, tag-after, reset-after, fresh-none, fed-at, fed-inside, Tagged}
+use Rattle.history.proofs.Calls.{one-family, tagged-at, tagged-inside, Accepted, tag-accepted, reset-succeeds, reset-none, reset-inside}
 
 -- ---- lists of tags
 total-append : (a b : List Tag) → total (a ++ b) ≡ total a + total b

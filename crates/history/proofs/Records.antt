@@ -9,14 +9,14 @@ use borrow.Author.Tests.{eqb-true, eqb-false, eq-eqb, ne-eqb}
 use lib.ListN.{length}
 use Rattle.paper.specs.Bits.{changed}
 use Rattle.paper.specs.Record.{Family, size, dataAt, dataBytes, satellite, count, dataOf, sameBits}
-use Rattle.paper.specs.Word.{Owned, nothing, owns, owned, typeOf, taken, written, fedRecord}
+use Rattle.paper.specs.Word.{Owned, nothing, owns, owned, typeOf, taken, written, fedRecord, InBounds}
 use Rattle.paper.proofs.Parts.{length-part}
-use Rattle.paper.proofs.Views.{record-parts}
 use Rattle.paper.proofs.Lengths.{keeps-taken}
-use Rattle.paper.proofs.RecordViews.{heldOrFree, taken-satellite, taken-count, taken-data, InRecord, owned-inRecord, written-satellite, written-count, written-data}
+use Rattle.paper.proofs.RecordViews.{heldOrFree, taken-satellite, taken-count, taken-data, written-satellite, written-count, written-data}
 use Rattle.history.specs.Line.{same}
 use Rattle.paper.proofs.Same.{true-bits}
 use Rattle.history.proofs.Agree.{true-same, moved-bits}
+use Rattle.paper.proofs.WordTable.{owned-inBounds}
 
 -- the record x became y: its count stays where its satellite and its bits do, and is 0 where not
 abbrev pub Kept : Family → List ℕ → List ℕ → Type 0
@@ -46,14 +46,14 @@ module _ (f : Family) (word rec : List ℕ) (l : length rec ≡ size f) where
   unfolding written
   nothing-kept = rw (true-bits f (dataOf f rec) (dataOf f rec) refl)
 
-  written-kept : (o : Owned) → InRecord f o
+  written-kept : (o : Owned) → InBounds f o
       → count (written f o word rec) ≡ cond (sameBits f (dataOf f (written f o word rec)) (dataOf f rec)) (count rec) 0
   written-kept nothing h = nothing-kept
   written-kept (owns to from n age) h =
       written-count f to from n age word rec l
       ∙ rw (
-        written-data f to from n age word rec l (h .1),
-        moved-bits f (dataOf f rec) to word from n (length-part (dataAt f) (dataBytes f) rec (omega (arith, record-parts f))) (h .0),
+        written-data f to from n age word rec l (h .2),
+        moved-bits f (dataOf f rec) to word from n (length-part (dataAt f) (dataBytes f) rec (omega arith)) (h .0),
       )
       (either (changed (dataOf f rec) to word from n))
     where
@@ -74,7 +74,7 @@ module _ (f : Family) (sat band : ℕ) (word rec : List ℕ) (l : length rec ≡
 
   fed-count : count fedOne ≡ cond (sameBits f (dataOf f fedOne) (dataOf f rec)) (cond (heldOrFree sat rec) (count rec) 0) 0
   fed-count =
-      written-kept f word (taken f sat rec) long (owned f (typeOf word) band) (owned-inRecord f (typeOf word) band)
+      written-kept f word (taken f sat rec) long (owned f (typeOf word) band) (owned-inBounds f (typeOf word) band)
       ∙ rw (taken-data f sat rec l, taken-count f sat rec l)
 
   -- a record with no satellite has no count to keep

@@ -6,8 +6,7 @@ use mathlib.Core.Logic.{_≢_}
 use mathlib.Core.Path.{_≡_}
 use lib.ListN.{length, getD}
 use Rattle.paper.specs.Number.{number, values}
-use Rattle.paper.specs.Record.{Family, dataBytes, satellite, count, dataOf, sameBits}
-use Rattle.paper.specs.Tag.{mostCount}
+use Rattle.paper.specs.Record.{Family, dataBytes, satellite, count, dataOf, sameBits, mostCount}
 use Rattle.paper.specs.Ask.{leastCount}
 use Rattle.paper.specs.Call.{Call, freshCall, askCall, answerTo, partTo, roomAfter, run}
 use Rattle.history.specs.Line.{Place, Inside, at, Tag, tags, total}

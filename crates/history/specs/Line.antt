@@ -5,7 +5,7 @@ use mathlib.Core.List.{List, [], _∷_, _++_}
 use lib.Dec.{eqb}
 use Rattle.paper.specs.Number.{number}
 use Rattle.paper.specs.Time.{startOf}
-use Rattle.paper.specs.Record.{Family, CED, Timing, satellite, dataOf, sameBits}
+use Rattle.paper.specs.Record.{Family, satellite, dataOf, sameBits, sameFamily}
 use Rattle.paper.specs.Room.{depth, slots, current, rowOf, recordOf}
 use Rattle.paper.specs.Feed.{nextRow, moves}
 use Rattle.paper.specs.Tag.{familyOf, candidateRecord}
@@ -84,13 +84,6 @@ pub record Tag : Type 0 where
   pub given : List ℕ
   pub verdict : Bool
   pub length : ℕ
-
--- "of the tag's family"
-abbrev pub sameFamily : Family → Family → Bool
-sameFamily CED CED = true
-sameFamily CED Timing = false
-sameFamily Timing CED = false
-sameFamily Timing Timing = true
 
 -- "A tag answered 0 counts on a line if, when it came, the line's record was of the tag's family and held the candidate's satellite
 -- and all its bits."

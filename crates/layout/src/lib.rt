@@ -1,5 +1,5 @@
-// The sizes and limits of the lent room, once for all code (those of a record are its kind's own): a header, then rows of a head and
-// N slots, a slot being one CED record and behind it one timing record.
+// The lent room, once for all code (a record's fields and sizes are its kind's own): a header, then rows of a head and N slots, a slot
+// being one CED record and behind it one timing record. Each field starts behind the one before it.
 ghost use mathlib.Core.Path.{_≡_};
 ghost use Rattle.paper.specs.Record.{familyIf};
 ghost use Rattle.paper.specs.Room.{base};
@@ -12,19 +12,38 @@ pub const MOST_ROWS: u8 = 16;
 // "N 1 to 36"
 pub const MOST_SLOTS: u8 = 36;
 
-// "a satellite above 36"
-pub const MOST_SATELLITES: u8 = 36;
-
 // "Header: D, N, current row, five zeros"
-pub const HEADER: usize = 8;
+pub const DEPTH_AT: usize = 0;
+
+pub const SLOTS_AT: usize = DEPTH_AT + 1;
+
+pub const CURRENT_AT: usize = SLOTS_AT + 1;
+
+pub const ZEROS_AT: usize = CURRENT_AT + 1;
+
+pub const HEADER: usize = ZEROS_AT + 5;
 
 // "A row starts with its mark, week 2, time 4 and a spare zero"
-pub const ROW_HEAD: usize = 8;
+pub const MARK_AT: usize = 0;
+
+pub const WEEK_AT: usize = MARK_AT + 1;
+
+pub const TIME_AT: usize = WEEK_AT + 2;
+
+pub const SPARE_AT: usize = TIME_AT + 4;
+
+pub const ROW_HEAD: usize = SPARE_AT + 1;
+
+// a row that is marked with a subframe
+pub const MARKED: u8 = 1;
 
 // where the timing record of a slot starts
 pub const TIMING_AT: usize = Ced::SIZE;
 
-pub const SLOT: usize = Ced::SIZE + Timing::SIZE;
+pub const SLOT: usize = TIMING_AT + Timing::SIZE;
+
+// the bytes of the largest store
+pub const MOST_ROOM: usize = HEADER + MOST_ROWS as usize * (ROW_HEAD + MOST_SLOTS as usize * SLOT);
 
 // Where a record starts in its slot, from whether it is timing.
 pub fn base(timing: bool) -> usize

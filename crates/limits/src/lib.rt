@@ -6,6 +6,16 @@ ghost use Rattle.paper.specs.Tag.{kindKnown, copAllowed, lengthAllowed, statusK
 use layout::MOST_ROWS;
 use layout::MOST_SLOTS;
 
+// The bytes of a word.
+pub const WORD_BYTES: usize = 16;
+
+// "kind (0 CED, 4 timing, 12 slow CED)"
+const CED_KIND: u8 = 0;
+
+pub const TIMING_KIND: u8 = 4;
+
+const SLOW_CED_KIND: u8 = 12;
+
 // "D or N outside its range": whether neither is. The test of a fresh store too.
 pub fn sizes_allowed(d: u8, n: u8) -> bool
     ensures { λ r. ⌜ r ≡ sizesAllowed d n ⌝ }
@@ -22,17 +32,17 @@ pub fn sizes_allowed(d: u8, n: u8) -> bool
     n <= MOST_SLOTS
 }
 
-// "kind (0 CED, 4 timing, 12 slow CED)"
+// whether a tag of the kind is known
 pub fn kind_known(kind: u8) -> bool
     ensures { λ r. ⌜ r ≡ kindKnown kind ⌝ }
 {
-    if kind == 0 {
+    if kind == CED_KIND {
         return true;
     }
-    if kind == 4 {
+    if kind == TIMING_KIND {
         return true;
     }
-    kind == 12
+    kind == SLOW_CED_KIND
 }
 
 // "COP 0 to 15"

@@ -8,8 +8,8 @@ use Rattle.lines.proofs.Kind.of.Reads as kind-of-reads
 use Rattle.lines.proofs.Kind.of.Kinds as kind-of-kinds
 use Rattle.lines.proofs.Kind.body.Reads as body-reads
 use Rattle.lines.proofs.Kind.body.Kinds as body-kinds
-use Rattle.lines.proofs.Told.number.Reads as number-reads
-use Rattle.lines.proofs.Told.number.Kinds as number-kinds
+use Rattle.lines.proofs.Outcome.number.Reads as number-reads
+use Rattle.lines.proofs.Outcome.number.Kinds as number-kinds
 use Rattle.lines.proofs.put_line.Reads as put-line-reads
 use Rattle.lines.proofs.put_line.Kinds as put-line-kinds
 

@@ -1,3 +1,4 @@
 -- The laws of `lines`.
 pub mod OneToOne
+pub mod Longest
 pub mod Determined

@@ -1,8 +1,9 @@
 -- "Bench program": the kinds of record, the length of each one's body, and its letter.
-use Prim.Native.Nat.{ℕ}
+use Prim.Native.Nat.{ℕ, _+_}
 use mathlib.Core.Bool.{cond}
 use mathlib.Core.List.{List, [], _∷_}
 use lib.Dec.{eqb}
+use Rattle.paper.specs.Word.{wordBytes}
 use Rattle.lines.specs.declared.Kind.{Kind}
 use Rattle.lines.specs.declared.Kind.the-variants.{Word, Tag, Reset, Ced, Timing, Fresh, Unknown}
 
@@ -15,13 +16,17 @@ kindOf b =
 
 -- "a body whose length the kind fixes"; an unknown kind is answered without one
 abbrev pub bodyLength : Kind → ℕ
-bodyLength Word = 24
-bodyLength Tag = 12
+bodyLength Word = 1 + 1 + 2 + 4 + wordBytes
+bodyLength Tag = 6 + 2 + 4
 bodyLength Reset = 0
 bodyLength Ced = 1
 bodyLength Timing = 1
 bodyLength Fresh = 2
 bodyLength Unknown = 0
+
+-- the longest record: its kind and a word's body
+abbrev pub longestRecord : ℕ
+longestRecord = 1 + bodyLength Word
 
 -- "letter w, t, r, c, p, f", and x, each with the space behind it
 abbrev pub letterOf : Kind → List ℕ

@@ -1,20 +1,38 @@
 -- "Bench program": the line that says an answer.
-use Prim.Native.Nat.{ℕ}
+use Prim.Native.Nat.{ℕ, _+_, _*_}
 use mathlib.Core.List.{List, [], _∷_, _++_}
 use Rattle.paper.specs.Number.{Answer, done, refused, number, values}
 use Rattle.paper.specs.Satellite.{lettersOf}
-use Rattle.text.specs.Text.{decimal, hexOf}
+use Rattle.paper.specs.Record.{CED, dataBytes}
+use Rattle.text.specs.Text.{mostDigits, decimal, hexOf}
 use Rattle.lines.specs.declared.Kind.{Kind}
-use Rattle.lines.specs.declared.Told.{Told}
-use Rattle.lines.specs.declared.Told.the-variants.{Refused, Done, Total, Reading}
+use Rattle.lines.specs.declared.Outcome.{Outcome}
+use Rattle.lines.specs.declared.Outcome.the-variants.{Refused, Done, Total, Reading}
 use Rattle.lines.specs.Kinds.{letterOf}
 
+-- the most bytes of a number behind its space, of three, of a satellite, and of what stands behind 0 beside so many bytes of data
+abbrev pub mostSpaced : ℕ
+mostSpaced = 1 + mostDigits
+
+abbrev pub mostNumbers : ℕ
+mostNumbers = 3 * mostSpaced
+
+abbrev pub mostSatellite : ℕ
+mostSatellite = 1 + 3
+
+abbrev pub mostReading : ℕ → ℕ
+mostReading bytes = mostSatellite + mostNumbers + (1 + 2 * bytes)
+
+-- the longest line: its letter, its number, a CED record's data behind it and the line's end
+abbrev pub longestLine : ℕ
+longestLine = 2 + mostDigits + mostReading (dataBytes CED) + 1
+
 -- the paper's answer: 0 with its values, or the number of the refusal
-abbrev pub toldAnswer : Told → Answer
-toldAnswer (Refused k) = refused k
-toldAnswer Done = done []
-toldAnswer (Total n) = done (n ∷ [])
-toldAnswer (Reading count gst) = done (count ∷ gst .wn .0 ∷ gst .tow .0 ∷ [])
+abbrev pub outcomeAnswer : Outcome → Answer
+outcomeAnswer (Refused k) = refused k
+outcomeAnswer Done = done []
+outcomeAnswer (Total n) = done (n ∷ [])
+outcomeAnswer (Reading count gst) = done (count ∷ gst .wn .0 ∷ gst .tow .0 ∷ [])
 
 -- a number behind a space
 abbrev pub spaced : ℕ → List ℕ

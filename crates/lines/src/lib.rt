@@ -1,6 +1,9 @@
 // The lines of the bench program (document 01, "Bench program"): the kinds of record, and an answer as one line of text.
 use gst::Gst;
+use limits::WORD_BYTES;
+use records::Ced;
 use svn::Svn;
+use text::MOST_DIGITS;
 use text::put_bytes;
 use text::put_decimal;
 use text::put_hex;
@@ -9,10 +12,30 @@ ghost use mathlib.Core.List.{_∷_};
 ghost use Prim.Native.Nat.{_+_, _*_, _≤_};
 ghost use lib.ListN.{length};
 ghost use Rattle.paper.specs.Number.{number, values};
+ghost use Rattle.paper.specs.Record.{CED, dataBytes};
 ghost use Rattle.paper.specs.Satellite.{lettersOf};
 ghost use Rattle.text.specs.Text.{Put, hexOf};
 ghost use Rattle.lines.specs.Kinds.{kindOf, bodyLength, letterOf};
-ghost use Rattle.lines.specs.Lines.{toldAnswer, spaced, numbersText, readingText, valuesText, lineOf};
+ghost use Rattle.lines.specs.Lines.{mostSpaced, mostNumbers, mostSatellite, mostReading, longestLine};
+ghost use Rattle.lines.specs.Lines.{outcomeAnswer, spaced, numbersText, readingText, valuesText, lineOf};
+
+// "satellite, band, week (2), time (4), 16 bytes"
+const WORD_BODY: usize = 1 + 1 + 2 + 4 + WORD_BYTES;
+
+// "satellite, kind, COP, length, status, verdict (0 is no), week (2), time (4)"
+const TAG_BODY: usize = 6 + 2 + 4;
+
+// the longest record: its kind and a word's body
+pub const LONGEST_RECORD: usize = 1 + WORD_BODY;
+
+// a number behind its space
+const SPACED: usize = 1 + MOST_DIGITS;
+
+// satellite, count, week, time and hex
+const READING: usize = (1 + 3) + 3 * SPACED + (1 + 2 * Ced::BYTES);
+
+// the longest line: its letter, its number, a CED record's data behind it and the line's end
+pub const LONGEST_LINE: usize = 2 + MOST_DIGITS + READING + 1;
 
 // What a record asks for.
 pub enum Kind {
@@ -26,7 +49,7 @@ pub enum Kind {
 }
 
 // An answer before it is text.
-pub enum Told {
+pub enum Outcome {
     // the number of the refusal
     Refused(u8),
     // 0, with nothing beside it
@@ -58,8 +81,8 @@ impl Kind {
         ensures { λ r. ⌜ r ≡ bodyLength self ⌝ }
     {
         match self {
-            Kind::Word => 24,
-            Kind::Tag => 12,
+            Kind::Word => WORD_BODY,
+            Kind::Tag => TAG_BODY,
             Kind::Reset => 0,
             Kind::Ced => 1,
             Kind::Timing => 1,
@@ -83,24 +106,24 @@ impl Kind {
     }
 }
 
-impl Told {
+impl Outcome {
     // The paper's number.
     pub fn number(self) -> u8
-        ensures { λ r. ⌜ r ≡ number (toldAnswer self) ⌝ }
+        ensures { λ r. ⌜ r ≡ number (outcomeAnswer self) ⌝ }
     {
         match self {
-            Told::Refused(number) => number,
-            Told::Done => 0,
-            Told::Total(_) => 0,
-            Told::Reading(_, _) => 0,
+            Outcome::Refused(number) => number,
+            Outcome::Done => 0,
+            Outcome::Total(_) => 0,
+            Outcome::Reading(_, _) => 0,
         }
     }
 }
 
 // A space and a number.
 fn put_spaced(out: &mut [u8], at: usize, x: u32) -> usize
-    requires { ⌜ at + 11 ≤ length (now out) ⌝ }
-    ensures { λ r. ⌜ (Put (now (out .entry)) at (spaced x) (now (out .exit)) r) × (r ≤ at + 11) ⌝ }
+    requires { ⌜ at + mostSpaced ≤ length (now out) ⌝ }
+    ensures { λ r. ⌜ (Put (now (out .entry)) at (spaced x) (now (out .exit)) r) × (r ≤ at + mostSpaced) ⌝ }
 {
     let next = put_bytes(out, at, b" ");
     put_decimal(out, next, x)
@@ -108,8 +131,8 @@ fn put_spaced(out: &mut [u8], at: usize, x: u32) -> usize
 
 // Count, week and time.
 fn put_numbers(out: &mut [u8], at: usize, count: u16, gst: Gst) -> usize
-    requires { ⌜ at + 33 ≤ length (now out) ⌝ }
-    ensures { λ r. ⌜ (Put (now (out .entry)) at (numbersText count (gst .wn .0) (gst .tow .0)) (now (out .exit)) r) × (r ≤ at + 33) ⌝ }
+    requires { ⌜ at + mostNumbers ≤ length (now out) ⌝ }
+    ensures { λ r. ⌜ (Put (now (out .entry)) at (numbersText count (gst .wn .0) (gst .tow .0)) (now (out .exit)) r) × (r ≤ at + mostNumbers) ⌝ }
 {
     let week = gst.wn.0;
     let time = gst.tow.0;
@@ -120,8 +143,8 @@ fn put_numbers(out: &mut [u8], at: usize, count: u16, gst: Gst) -> usize
 
 // A space, and the satellite as E and two digits.
 fn put_satellite(out: &mut [u8], at: usize, svn: Svn) -> usize
-    requires { ⌜ at + 4 ≤ length (now out) ⌝ }
-    ensures { λ r. ⌜ (Put (now (out .entry)) at (32 ∷ lettersOf (svn .0)) (now (out .exit)) r) × (r ≤ at + 4) ⌝ }
+    requires { ⌜ at + mostSatellite ≤ length (now out) ⌝ }
+    ensures { λ r. ⌜ (Put (now (out .entry)) at (32 ∷ lettersOf (svn .0)) (now (out .exit)) r) × (r ≤ at + mostSatellite) ⌝ }
 {
     let letters = svn.letters();
     let next = put_bytes(out, at, b" ");
@@ -131,7 +154,8 @@ fn put_satellite(out: &mut [u8], at: usize, svn: Svn) -> usize
 // A space, and data in hex.
 fn put_data(out: &mut [u8], at: usize, data: &[u8]) -> usize
     requires { ⌜ at + (1 + 2 * length (now «data»)) ≤ length (now out) ⌝ }
-    ensures { λ r. ⌜ (Put (now (out .entry)) at (32 ∷ hexOf (now («data» .entry))) (now (out .exit)) r) × (r ≤ at + (1 + 2 * length (now («data» .entry)))) ⌝ }
+    ensures { λ r. ⌜ (Put (now (out .entry)) at (32 ∷ hexOf (now («data» .entry))) (now (out .exit)) r)
+        × (r ≤ at + (1 + 2 * length (now («data» .entry)))) ⌝ }
 {
     let next = put_bytes(out, at, b" ");
     put_hex(out, next, data)
@@ -139,9 +163,9 @@ fn put_data(out: &mut [u8], at: usize, data: &[u8]) -> usize
 
 // Satellite, count, week, time and hex.
 fn put_reading(out: &mut [u8], at: usize, svn: Svn, count: u16, gst: Gst, data: &[u8]) -> usize
-    requires { ⌜ at + (38 + 2 * length (now «data»)) ≤ length (now out) ⌝ }
+    requires { ⌜ at + mostReading (length (now «data»)) ≤ length (now out) ⌝ }
     ensures { λ r. ⌜ (Put (now (out .entry)) at (readingText (svn .0) count (gst .wn .0) (gst .tow .0) (now («data» .entry))) (now (out .exit)) r)
-        × (r ≤ at + (38 + 2 * length (now («data» .entry)))) ⌝ }
+        × (r ≤ at + mostReading (length (now («data» .entry)))) ⌝ }
 {
     let named = put_satellite(out, at, svn);
     let numbered = put_numbers(out, named, count, gst);
@@ -149,28 +173,35 @@ fn put_reading(out: &mut [u8], at: usize, svn: Svn, count: u16, gst: Gst, data: 
 }
 
 // What stands behind 0, if anything does.
-fn put_values(out: &mut [u8], at: usize, svn: Svn, told: Told, data: &[u8]) -> usize
-    requires { ⌜ at + (38 + 2 * length (now «data»)) ≤ length (now out) ⌝ }
-    ensures { λ r. ⌜ (Put (now (out .entry)) at (valuesText (svn .0) (values (toldAnswer told)) (now («data» .entry))) (now (out .exit)) r)
-        × (r ≤ at + (38 + 2 * length (now («data» .entry)))) ⌝ }
+fn put_values(out: &mut [u8], at: usize, svn: Svn, outcome: Outcome, data: &[u8]) -> usize
+    requires { ⌜ at + mostReading (length (now «data»)) ≤ length (now out) ⌝ }
+    ensures { λ r. ⌜ (Put (now (out .entry)) at (valuesText (svn .0) (values (outcomeAnswer outcome)) (now («data» .entry))) (now (out .exit)) r)
+        × (r ≤ at + mostReading (length (now («data» .entry)))) ⌝ }
 {
-    match told {
-        Told::Refused(_) => at,
-        Told::Done => at,
-        Told::Total(records) => put_spaced(out, at, records),
-        Told::Reading(count, gst) => put_reading(out, at, svn, count, gst, data),
+    match outcome {
+        Outcome::Refused(_) => at,
+        Outcome::Done => at,
+        Outcome::Total(records) => put_spaced(out, at, records),
+        Outcome::Reading(count, gst) => put_reading(out, at, svn, count, gst, data),
     }
 }
 
-// The line for an answer. The longest has 138 digits of data.
-pub fn put_line(out: &mut [u8], at: usize, kind: Kind, svn: Svn, told: Told, data: &[u8]) -> usize
-    requires { ⌜ (at + 200 ≤ length (now out)) × (length (now «data») ≤ 69) ⌝ }
-    ensures { λ r. ⌜ (Put (now (out .entry)) at (lineOf kind (svn .0) (toldAnswer told) (now («data» .entry))) (now (out .exit)) r)
-        × (r ≤ at + 200) ⌝ }
+// The line for an answer.
+pub fn put_line(
+    out: &mut [u8],
+    at: usize,
+    kind: Kind,
+    svn: Svn,
+    outcome: Outcome,
+    data: &[u8],
+) -> usize
+    requires { ⌜ (at + longestLine ≤ length (now out)) × (length (now «data») ≤ dataBytes CED) ⌝ }
+    ensures { λ r. ⌜ (Put (now (out .entry)) at (lineOf kind (svn .0) (outcomeAnswer outcome) (now («data» .entry))) (now (out .exit)) r)
+        × (r ≤ at + longestLine) ⌝ }
 {
     let letter = kind.letter();
     let lettered = put_bytes(out, at, &letter);
-    let numbered = put_decimal(out, lettered, told.number() as u32);
-    let said = put_values(out, numbered, svn, told, data);
+    let numbered = put_decimal(out, lettered, outcome.number() as u32);
+    let said = put_values(out, numbered, svn, outcome, data);
     put_bytes(out, said, b"\n")
 }

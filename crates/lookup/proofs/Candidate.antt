@@ -4,30 +4,20 @@ use native.Mathlib.Omega.{arith}
 use mathlib.Core.Path.{_≡_, refl, sym, _∙_}
 use mathlib.Core.Bool.{Bool, true, false, _&&_}
 use mathlib.Core.List.{List, [], _∷_}
-use Prim.Native.Nat.{ℕ, _+_, _≤_, _<_}
+use Prim.Native.Nat.{ℕ, _<_}
 use borrow.Author.Tests.{ltb-true}
 use lib.Dec.{ltb}
-use lib.ListN.{length}
 use Rattle.paper.specs.Number.{values}
-use Rattle.paper.specs.Parts.{part}
-use Rattle.paper.specs.Record.{Family, size, dataAt, dataBytes, dataOf}
+use Rattle.paper.specs.Record.{Family}
 use Rattle.paper.specs.Room.{depth, slots}
 use Rattle.paper.specs.Tag.{thirtyBefore, firstRow, candidateRow, candidateSlot, candidateRecord, fitsCop, hasCandidate}
-use Rattle.paper.proofs.Views.{Facts}
+use Rattle.paper.specs.Store.{InRange}
 use Rattle.paper.proofs.StoreFacts.{both-true}
 use Rattle.lookup.specs.declared.Found.{Found}
 use Rattle.lookup.specs.declared.Found.the-variants.{At, Nothing}
 use Rattle.lookup.specs.Found.{pick}
-use Rattle.lookup.specs.Candidate.{placeOf, candidateIn, candidateAt}
+use Rattle.lookup.specs.Candidate.{placeOf, candidateIn, candidateAt, CandidateThere}
 use Rattle.lookup.proofs.Places.{place-inside, place-record, place-data}
-
--- what a caller learns of the place x that is answered
-pub record Shown (f : Family) (sat cop w t : ℕ) (room : List ℕ) (x : ℕ) : Type 0 where
-  pub has : hasCandidate f sat cop w t room ≡ true
-  pub place : x ≡ placeOf f (candidateRow w t room) (candidateSlot f sat w t room) room
-  pub inside : x + size f ≤ length room
-  pub here : part x (size f) room ≡ candidateRecord f sat w t room
-  pub bytes : part (x + dataAt f) (dataBytes f) room ≡ dataOf f (candidateRecord f sat w t room)
 
 three : (a b c : Bool) (x y : Found) → pick a (pick b (pick c x y) y) y ≡ pick (a && b && c) x y
 three true true c x y = refl
@@ -72,7 +62,7 @@ module _ (f : Family) (sat cop w t w' t' : ℕ) (room : List ℕ) (before : valu
       go false h q = let z : _≡_ {A = ℕ} 0 1 = cc in absurd (omega arith)
 
   -- a place: the candidate is there
-  pub candidate-shown : (x : ℕ) → Facts room → candidateAt f sat cop w' t' room ≡ At x → Shown f sat cop w t room x
+  pub candidate-shown : (x : ℕ) → InRange room → candidateAt f sat cop w' t' room ≡ At x → CandidateThere f sat cop w t room x
   unfolding candidateRecord
   candidate-shown x F e =
       let p = found-place x e in

@@ -7,6 +7,8 @@ use Rattle.lookup.proofs.row_marked.Reads as row-marked-reads
 use Rattle.lookup.proofs.row_marked.Kinds as row-marked-kinds
 use Rattle.lookup.proofs.slot_of.Reads as slot-of-reads
 use Rattle.lookup.proofs.slot_of.Kinds as slot-of-kinds
+use Rattle.lookup.proofs.data_of.Reads as data-of-reads
+use Rattle.lookup.proofs.data_of.Kinds as data-of-kinds
 use Rattle.lookup.proofs.candidate_at.Reads as candidate-at-reads
 use Rattle.lookup.proofs.candidate_at.Kinds as candidate-at-kinds
 
@@ -25,6 +27,14 @@ pub slot-of-determined :
     (e e' : AtExit (endedOf 1 slot-of-kinds.ps slot-of-kinds.r) κs)
     → slot-of-reads.Post κs a r e → slot-of-reads.Post κs a r' e' → r ≡ r'
 slot-of-determined κs a r r' e e' p q = p ∙ sym q
+
+pub data-of-determined :
+    (κs : Lfts 1)
+    (a : Dens κs data-of-kinds.ps)
+    (r r' : resT data-of-kinds.r κs .Denot)
+    (e e' : AtExit (endedOf 1 data-of-kinds.ps data-of-kinds.r) κs)
+    → data-of-reads.Post κs a r e → data-of-reads.Post κs a r' e' → r .now ≡ r' .now
+data-of-determined κs a r r' e e' p q = p ∙ sym q
 
 pub candidate-at-determined :
     (κs : Lfts 1)

@@ -7,12 +7,13 @@ use lib.ListN.{length}
 use Rattle.paper.specs.Parts.{part}
 use Rattle.paper.specs.Record.{Family, size, dataAt, dataBytes, dataOf}
 use Rattle.paper.specs.Room.{rowSize, depth, slots, rowAt, rowOf, recordAt, recordOf}
+use Rattle.paper.specs.Store.{InRange}
 use Rattle.paper.proofs.Parts.{part-part}
-use Rattle.paper.proofs.Views.{Facts, row-inside, record-fits, record-parts}
+use Rattle.paper.proofs.Views.{row-inside, record-fits}
 use Rattle.lookup.specs.Candidate.{placeOf}
 
 module _ (f : Family) (r i : ℕ) (room : List ℕ) (h : i < slots room) where
-  pub place-inside : Facts room → r < depth room → placeOf f r i room + size f ≤ length room
+  pub place-inside : InRange room → r < depth room → placeOf f r i room + size f ≤ length room
   place-inside F g = omega (arith, row-inside room F r g, record-fits f (slots room) i h)
 
   pub place-record : part (placeOf f r i room) (size f) room ≡ recordOf f i (rowOf r room)
@@ -20,5 +21,5 @@ module _ (f : Family) (r i : ℕ) (room : List ℕ) (h : i < slots room) where
 
   pub place-data : part (placeOf f r i room + dataAt f) (dataBytes f) room ≡ dataOf f (recordOf f i (rowOf r room))
   place-data =
-      sym (part-part (dataAt f) (dataBytes f) (placeOf f r i room) (size f) room (omega (arith, record-parts f)))
+      sym (part-part (dataAt f) (dataBytes f) (placeOf f r i room) (size f) room (omega arith))
       ∙ ap (dataOf f) place-record

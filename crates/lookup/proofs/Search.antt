@@ -1,18 +1,18 @@
 -- A search that yields its index or refuses on the last, by the paper's `first`; and where a record's satellite stands in its row.
 -- Assumes nothing.
 use native.Mathlib.Omega.{arith}
-use native.Mathlib.Nat.{add-zero}
-use mathlib.Core.Path.{_≡_, refl, ap, _∙_}
+use mathlib.Core.Path.{_≡_, refl}
 use mathlib.Core.Bool.{Bool, true, false, _&&_}
 use mathlib.Core.List.{List}
-use Prim.Native.Nat.{ℕ, _-_, _≤_, _<_}
+use Prim.Native.Nat.{ℕ, _+_, _-_, _≤_, _<_}
 use borrow.Author.Tests.{lt-ltb, le-ltb, ltb-true}
 use lib.Dec.{eqb, ltb}
 use lib.ListN.{getD}
 use Rattle.paper.specs.Parts.{firstFrom}
-use Rattle.paper.specs.Record.{Family, CED, Timing, size, satellite}
+use Rattle.paper.specs.Record.{Family, satelliteAt, size, satellite}
 use Rattle.paper.specs.Room.{rowSize, rowOf, marked, isAt, recordAt, recordOf}
 use Rattle.paper.proofs.Parts.{getD-part}
+use Rattle.paper.proofs.Views.{record-fits}
 use Rattle.paper.proofs.First.{first-here, first-none}
 use Rattle.lookup.specs.declared.Found.the-variants.{At, Nothing}
 use Rattle.lookup.specs.Found.{pick, found}
@@ -47,13 +47,8 @@ found-not n k e = go (ltb k n) refl e
     go false t q = t
 
 -- ---- a record in its row
-size-one : (f : Family) → 0 < size f
-size-one CED = omega arith
-size-one Timing = omega arith
+pub satellite-at : (f : Family) (i : ℕ) (row : List ℕ) → satellite (recordOf f i row) ≡ getD row (recordAt f i + satelliteAt) 0
+satellite-at f i row = getD-part (recordAt f i) (size f) row satelliteAt (omega arith)
 
-pub satellite-at : (f : Family) (i : ℕ) (row : List ℕ) → satellite (recordOf f i row) ≡ getD row (recordAt f i) 0
-satellite-at f i row = getD-part (recordAt f i) (size f) row 0 (size-one f) ∙ ap (λ (k : ℕ). getD row k 0) (add-zero (recordAt f i))
-
-pub record-starts : (f : Family) (n i : ℕ) → i < n → recordAt f i < rowSize n
-record-starts CED n i h = omega arith
-record-starts Timing n i h = omega arith
+pub record-starts : (f : Family) (n i : ℕ) → i < n → recordAt f i + satelliteAt < rowSize n
+record-starts f n i h = omega (arith, record-fits f n i h)

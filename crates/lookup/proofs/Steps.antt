@@ -3,15 +3,14 @@
 use mathlib.Core.Path.{_≡_, sym, ap, _∙_}
 use mathlib.Core.Bool.{true, false}
 use mathlib.Core.List.{List}
-use Prim.Native.Nat.{ℕ, _+_, _-_, _≤_, _<_}
+use Prim.Native.Nat.{ℕ, _+_, _≤_, _<_}
 use borrow.Author.Tests.{lt-ltb}
-use lib.ListN.{length, take, drop}
+use lib.ListN.{length}
 use Rattle.paper.specs.Parts.{part}
 use Rattle.paper.specs.Record.{Family, size}
-use Rattle.paper.specs.Room.{rowSize, depth, slots, rowAt, rowOf, recordAt, recordOf}
+use Rattle.paper.specs.Room.{depth, slots, rowAt, rowOf, recordAt, recordOf}
 use Rattle.paper.specs.Tag.{firstSlot, fitsCop}
-use Rattle.paper.proofs.Views.{Facts}
-use Rattle.rows.proofs.Where.{row-ends, row-lent}
+use Rattle.paper.specs.Store.{InRange}
 use Rattle.lookup.specs.declared.Found.{Found}
 use Rattle.lookup.specs.declared.Found.the-variants.{At, Nothing}
 use Rattle.lookup.specs.Found.{found}
@@ -19,25 +18,21 @@ use Rattle.lookup.specs.Candidate.{placeOf, candidateIn}
 use Rattle.lookup.proofs.Search.{found-at, found-not}
 use Rattle.lookup.proofs.Places.{place-inside, place-record}
 
--- what the code knows of row r: it is lent as `room[start..start + long]`
-pub record Lent (room : List ℕ) (r n start long : ℕ) : Type 0 where
-  pub facts : Facts room
+-- what the code knows of row r
+pub record Looked (room : List ℕ) (r n : ℕ) (row : List ℕ) : Type 0 where
+  pub facts : InRange room
   pub below : r < depth room
   pub count : n ≡ slots room
-  pub from : start ≡ rowAt n r
-  pub wide : long ≡ rowSize n
+  pub is : row ≡ rowOf r room
 
-module _ {room : List ℕ} {r n start long : ℕ} (s : Lent room r n start long) where
-  pub lent-ends : start + long ≤ length room
-  lent-ends = row-ends room n r start long (s .count) (s .from) (s .wide) (s .facts) (s .below)
-
+module _ {room : List ℕ} {r n : ℕ} {row : List ℕ} (s : Looked room r n row) where
   -- the slot that is looked for in it
-  module _ (f : Family) (sat cop : ℕ) {a : Found} (ea : a ≡ found n (firstSlot f sat n (take (start + long - start) (drop start room)))) where
+  module _ (f : Family) (sat cop : ℕ) {a : Found} (ea : a ≡ found n (firstSlot f sat n row)) where
     abbrev slot : ℕ
     slot = firstSlot f sat (slots room) (rowOf r room)
 
     answer : a ≡ found (slots room) slot
-    answer = ea ∙ rw (row-lent room n r start long (s .count) (s .from) (s .wide), s .count)
+    answer = ea ∙ rw (s .is, s .count)
 
     pub in-none : a ≡ Nothing → Nothing ≡ candidateIn f sat cop r room
     unfolding candidateIn
@@ -51,9 +46,9 @@ module _ {room : List ℕ} {r n start long : ℕ} (s : Lent room r n start long)
       pub in-slot : x < n
       in-slot = rw (is-slot .0, s .count) (is-slot .1)
 
-      module _ {at : ℕ} (eat : at ≡ recordAt f x) where
+      module _ {start at : ℕ} (es : start ≡ rowAt n r) (eat : at ≡ recordAt f x) where
         is-place : start + at ≡ placeOf f r slot room
-        is-place = rw (s .from, eat, is-slot .0, s .count)
+        is-place = rw (es, eat, is-slot .0, s .count)
 
         pub in-inside : start + at + size f ≤ length room
         in-inside = rw is-place (place-inside f r slot room (is-slot .1) (s .facts) (s .below))

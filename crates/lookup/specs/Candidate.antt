@@ -1,10 +1,14 @@
 -- Where the candidate of a tag lies in the room, for the subframe w, t that its row is marked with.
-use Prim.Native.Nat.{ℕ, _+_}
+use Prim.Native.Nat.{ℕ, _+_, _≤_}
+use mathlib.Core.Path.{_≡_}
+use mathlib.Core.Bool.{true}
 use mathlib.Core.List.{List}
 use lib.Dec.{ltb}
-use Rattle.paper.specs.Record.{Family}
+use lib.ListN.{length}
+use Rattle.paper.specs.Parts.{part}
+use Rattle.paper.specs.Record.{Family, dataBytes, dataAt, size, dataOf}
 use Rattle.paper.specs.Room.{depth, slots, rowAt, rowOf, recordAt, recordOf}
-use Rattle.paper.specs.Tag.{firstRow, firstSlot, fitsCop}
+use Rattle.paper.specs.Tag.{firstRow, firstSlot, candidateRow, candidateSlot, candidateRecord, fitsCop, hasCandidate}
 use Rattle.lookup.specs.declared.Found.{Found}
 use Rattle.lookup.specs.declared.Found.the-variants.{At, Nothing}
 use Rattle.lookup.specs.Found.{pick}
@@ -25,3 +29,11 @@ unfoldable pub candidateAt : Family → ℕ → ℕ → ℕ → ℕ → List ℕ
 candidateAt f sat cop w t room =
     let r = firstRow w t room in
     pick (ltb r (depth room)) (candidateIn f sat cop r room) Nothing
+
+-- what a caller learns of the place x of a candidate, for the MACK time w, t: its record starts there, and its data lies in it
+pub record CandidateThere (f : Family) (sat cop w t : ℕ) (room : List ℕ) (x : ℕ) : Type 0 where
+  pub has : hasCandidate f sat cop w t room ≡ true
+  pub place : x ≡ placeOf f (candidateRow w t room) (candidateSlot f sat w t room) room
+  pub inside : x + size f ≤ length room
+  pub here : part x (size f) room ≡ candidateRecord f sat w t room
+  pub bytes : part (x + dataAt f) (dataBytes f) room ≡ dataOf f (candidateRecord f sat w t room)

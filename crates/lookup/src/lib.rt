@@ -5,14 +5,15 @@ ghost use mathlib.Core.Bool.{_&&_};
 ghost use Prim.Native.Nat.{_+_, _≤_, _<_};
 ghost use lib.ListN.{length};
 ghost use Rattle.paper.specs.Parts.{part};
-ghost use Rattle.paper.specs.Record.{familyIf, CED, Timing as TIMING, size, older};
-ghost use Rattle.paper.specs.Room.{rowSize, depth, marked, isAt};
+ghost use Rattle.paper.specs.Record.{familyIf, CED, Timing as TIMING, dataBytes, dataAt, size};
+ghost use Rattle.paper.specs.Room.{headSize, rowSize, depth, marked, isAt};
+ghost use Rattle.paper.specs.Store.{InRange};
 ghost use Rattle.paper.specs.Tag.{firstRow, firstSlot, fitsCop};
-ghost use Rattle.paper.proofs.Views.{Facts};
 ghost use Rattle.lookup.specs.Found.{found};
 ghost use Rattle.lookup.specs.Candidate.{candidateIn, candidateAt};
 use layout::HEADER;
 use records::Ced;
+use records::SATELLITE_AT;
 use records::Timing;
 
 // A place: a row's number, a slot's number, or where a record starts in the room.
@@ -22,10 +23,10 @@ pub enum Found {
 }
 
 fn is_marked_at(row: &[u8], week: u16, time: u32) -> bool
-    requires { ⌜ 8 ≤ length (now row) ⌝ }
+    requires { ⌜ headSize ≤ length (now row) ⌝ }
     ensures { λ r. ⌜ r ≡ (marked (now (row .entry)) && isAt week time (now (row .entry))) ⌝ }
 {
-    if row[0] != 1 {
+    if !rows::is_marked(row) {
         return false;
     }
     rows::is_at(row, week, time)
@@ -33,12 +34,11 @@ fn is_marked_at(row: &[u8], week: u16, time: u32) -> bool
 
 // "the first row, from row 0 up, marked with that time"
 pub fn row_marked(room: &[u8], week: u16, time: u32) -> Found
-    requires { ⌜ Facts (now room) ⌝ }
+    requires { ⌜ InRange (now room) ⌝ }
     ensures { λ r. ⌜ r ≡ found (depth (now (room .entry))) (firstRow week time (now (room .entry))) ⌝ }
 {
-    let d = rows::wide(room[0]);
-    let n = rows::wide(room[1]);
-    let size = rows::row_size(n);
+    let d = rows::depth(room);
+    let size = rows::row_size(rows::slots(room));
     let mut at = HEADER;
     let mut row: usize = 0;
     let first = loop {
@@ -65,7 +65,7 @@ pub fn slot_of(row: &[u8], n: usize, timing: bool, sat: u8) -> Found
         if slot >= n {
             return Found::Nothing;
         }
-        if row[rows::record_start(timing, slot)] == sat {
+        if row[rows::record_start(timing, slot) + SATELLITE_AT] == sat {
             break slot;
         }
         slot += 1;
@@ -73,25 +73,19 @@ pub fn slot_of(row: &[u8], n: usize, timing: bool, sat: u8) -> Found
     Found::At(first)
 }
 
-// "greatest age + 1 (held at 255)"
-fn one_more(age: u8) -> u8
-    ensures { λ r. ⌜ r ≡ older 1 age ⌝ }
-{
-    if age < 255 { age + 1 } else { 255 }
-}
-
+// "its greatest age + 1 (held at 255) ≤ COP"
 fn fits_cop_ced(rec: &[u8], cop: u8) -> bool
     requires { ⌜ length (now rec) ≡ size CED ⌝ }
     ensures { λ r. ⌜ r ≡ fitsCop CED cop (now (rec .entry)) ⌝ }
 {
-    one_more(Ced::greatest(Ced::ages(rec))) <= cop
+    records::one_older(Ced::greatest(Ced::ages(rec)), 1) <= cop
 }
 
 fn fits_cop_timing(rec: &[u8], cop: u8) -> bool
     requires { ⌜ length (now rec) ≡ size TIMING ⌝ }
     ensures { λ r. ⌜ r ≡ fitsCop TIMING cop (now (rec .entry)) ⌝ }
 {
-    one_more(Timing::greatest(Timing::ages(rec))) <= cop
+    records::one_older(Timing::greatest(Timing::ages(rec)), 1) <= cop
 }
 
 // Whether the record that starts at `at` may be a candidate.
@@ -109,10 +103,10 @@ fn fits_cop(room: &[u8], at: usize, timing: bool, cop: u8) -> bool
 
 // The candidate's record in row r: where it starts in the room.
 fn candidate_in(room: &[u8], r: usize, timing: bool, sat: u8, cop: u8) -> Found
-    requires { ⌜ Facts (now room) × (r < depth (now room)) ⌝ }
+    requires { ⌜ InRange (now room) × (r < depth (now room)) ⌝ }
     ensures { λ a. ⌜ a ≡ candidateIn (familyIf timing) sat cop r (now (room .entry)) ⌝ }
 {
-    let n = rows::wide(room[1]);
+    let n = rows::slots(room);
     let start = rows::row_start(n, r);
     let e = start + rows::row_size(n);
     let Found::At(slot) = slot_of(&room[start..e], n, timing, sat) else {
@@ -125,9 +119,19 @@ fn candidate_in(room: &[u8], r: usize, timing: bool, sat: u8, cop: u8) -> Found
     Found::At(at)
 }
 
+// The data of the record that starts at `at`.
+pub fn data_of(room: &[u8], at: usize, timing: bool) -> &[u8]
+    requires { ⌜ at + size (familyIf timing) ≤ length (now room) ⌝ }
+    ensures { λ r. ⌜ now r ≡ part (at + dataAt (familyIf timing)) (dataBytes (familyIf timing)) (now (room .entry)) ⌝ }
+{
+    let a = at + records::data_at(timing);
+    let e = a + records::bytes_of(timing);
+    &room[a..e]
+}
+
 // Where the candidate's record starts in the room; week and time are the MACK's less 30 s.
 pub fn candidate_at(room: &[u8], timing: bool, sat: u8, cop: u8, week: u16, time: u32) -> Found
-    requires { ⌜ Facts (now room) ⌝ }
+    requires { ⌜ InRange (now room) ⌝ }
     ensures { λ r. ⌜ r ≡ candidateAt (familyIf timing) sat cop week time (now (room .entry)) ⌝ }
 {
     let Found::At(row) = row_marked(room, week, time) else {

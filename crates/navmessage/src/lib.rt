@@ -1,30 +1,25 @@
 // The store's calls, under the names of the Rust. Each tests its own input, answers by an enum whose number and values are the
 // paper's, and changes the lent room only where it answers 0.
 ghost use mathlib.Core.Path.{_≡_};
-ghost use mathlib.Core.Bool.{true};
-ghost use Prim.Native.Nat.{_+_, _*_, _≤_, _<_};
-ghost use lib.ListN.{length};
-ghost use Rattle.paper.specs.Time.{isTime, startOf};
-ghost use Rattle.paper.specs.Parts.{onPart};
-ghost use Rattle.paper.specs.Room.{rowSize, rowAt, slots, current};
-ghost use Rattle.paper.specs.Feed.{fedRow, fed};
-ghost use Rattle.paper.specs.Answer.{freshAnswer, freshRoom, feedAnswer, feedRoom, tagAnswer, tagRoom, candidateAnswer, candidateData, askAnswer, askData, resetAnswer, resetRoom};
+ghost use Rattle.paper.specs.Answer.{freshAnswer, freshRoom, feedAnswer, feedRoom, tagAnswer, tagRoom};
+ghost use Rattle.paper.specs.Answer.{candidateAnswer, candidateData, askAnswer, askData, resetAnswer, resetRoom};
 ghost use Rattle.paper.specs.Record.{CED, Timing, familyIf};
+ghost use Rattle.refusals.specs.Reply.{replyAnswer};
+ghost use Rattle.tags.specs.Candidates.{taggedAnswer};
 ghost use Rattle.navmessage.specs.Asked.{askedAnswer};
-ghost use Rattle.tags.specs.Place.{taggedAnswer};
-ghost use Rattle.paper.proofs.Views.{Facts};
-ghost use Rattle.refusals.specs.Reply.{answerOf};
+use ask::Answered;
 use gst::Gst;
-use gst::NewTime;
+use limits::TIMING_KIND;
 use refusals::Refusal;
 use refusals::Reply;
 use svn::Svn;
-use tags::Place;
+use tags::Candidate;
 use tags::Tagged;
 
 // A fresh store of d rows and n slots at the start of the room.
 pub fn fresh(room: &mut [u8], d: u8, n: u8) -> Reply
-    ensures { λ r. ⌜ (answerOf r ≡ freshAnswer d n (now (room .entry))) × (now (room .exit) ≡ freshRoom d n (now (room .entry))) ⌝ }
+    ensures { λ r. ⌜ (replyAnswer r ≡ freshAnswer d n (now (room .entry)))
+        × (now (room .exit) ≡ freshRoom d n (now (room .entry))) ⌝ }
 {
     let reply = entry::fresh_entry(room, d, n);
     if let Reply::Refused(why) = reply {
@@ -36,7 +31,8 @@ pub fn fresh(room: &mut [u8], d: u8, n: u8) -> Reply
 
 // All counts put to 0.
 pub fn reset_authbits(room: &mut [u8]) -> Reply
-    ensures { λ r. ⌜ (answerOf r ≡ resetAnswer (now (room .entry))) × (now (room .exit) ≡ resetRoom (now (room .entry))) ⌝ }
+    ensures { λ r. ⌜ (replyAnswer r ≡ resetAnswer (now (room .entry)))
+        × (now (room .exit) ≡ resetRoom (now (room .entry))) ⌝ }
 {
     if !store::is_store(room) {
         return Reply::Refused(Refusal::NotAStore);
@@ -45,47 +41,16 @@ pub fn reset_authbits(room: &mut [u8]) -> Reply
     Reply::Done
 }
 
-// "The word's time is cut to its subframe T"; the time of week was tested before.
-fn start_of(gst: Gst) -> u32
-    requires { ⌜ isTime (gst .tow .0) ≡ true ⌝ }
-    ensures { λ r. ⌜ r ≡ startOf (gst .tow .0) ⌝ }
-{
-    match gst.gst_subframe() {
-        NewTime::Time(start) => start.tow.0,
-        NewTime::NoTime => 0,
-        NewTime::OutOfRange => 0,
-    }
-}
-
-// The current row takes the word.
-fn feed_current(room: &mut [u8], sat: u8, band: u8, word: &[u8])
-    requires { ⌜ Facts (now room) × (length (now word) ≡ 16) ⌝ }
-    ensures { λ _. ⌜ now (room .exit) ≡ onPart (fedRow (slots (now (room .entry))) sat band (now (word .entry))) (rowAt (slots (now (room .entry))) (current (now (room .entry)))) (rowSize (slots (now (room .entry)))) (now (room .entry)) ⌝ }
-{
-    let n = rows::wide(room[1]);
-    let at = rows::row_start(n, rows::wide(room[2]));
-    let e = at + rows::row_size(n);
-    feed::feed_row(&mut room[at..e], n, sat, band, word);
-}
-
-// The ring settled for the word's subframe, and then the records of the current row.
-fn feed_word(room: &mut [u8], week: u16, time: u32, sat: u8, band: u8, word: &[u8])
-    requires { ⌜ Facts (now room) × (length (now word) ≡ 16) ⌝ }
-    ensures { λ _. ⌜ now (room .exit) ≡ fed week time sat band (now (word .entry)) (now (room .entry)) ⌝ }
-{
-    ring::settle(room, week, time);
-    feed_current(room, sat, band, word);
-}
-
 // A word of a satellite, received at a time on a band (0 E1B, 1 E5B).
 pub fn feed(room: &mut [u8], word: &[u8], svn: Svn, gst: Gst, band: u8) -> Reply
-    ensures { λ r. ⌜ (answerOf r ≡ feedAnswer (now (word .entry)) (svn .0) (gst .tow .0) band (now (room .entry))) × (now (room .exit) ≡ feedRoom (now (word .entry)) (svn .0) (gst .wn .0) (gst .tow .0) band (now (room .entry))) ⌝ }
+    ensures { λ r. ⌜ (replyAnswer r ≡ feedAnswer (now (word .entry)) (svn .0) (gst .tow .0) band (now (room .entry)))
+        × (now (room .exit) ≡ feedRoom (now (word .entry)) (svn .0) (gst .wn .0) (gst .tow .0) band (now (room .entry))) ⌝ }
 {
     let reply = entry::feed_entry(room, word, svn, gst, band);
     if let Reply::Refused(why) = reply {
         return Reply::Refused(why);
     }
-    feed_word(room, gst.wn.0, start_of(gst), svn.0, band, word);
+    feed::feed_word(room, gst, svn.0, band, word);
     Reply::Done
 }
 
@@ -102,34 +67,35 @@ pub fn tag(
     given: &[u8],
     verdict: bool,
 ) -> Tagged
-    ensures { λ r. ⌜ (taggedAnswer r ≡ tagAnswer (svn .0) kind cop bits status (mack .wn .0) (mack .tow .0) (now (given .entry)) verdict (now (room .entry))) × (now (room .exit) ≡ tagRoom (svn .0) kind cop bits status (mack .wn .0) (mack .tow .0) (now (given .entry)) verdict (now (room .entry))) ⌝ }
+    ensures { λ r. ⌜ (taggedAnswer r
+        ≡ tagAnswer (svn .0) kind cop bits status (mack .wn .0) (mack .tow .0) (now (given .entry)) verdict (now (room .entry)))
+        × (now (room .exit)
+        ≡ tagRoom (svn .0) kind cop bits status (mack .wn .0) (mack .tow .0) (now (given .entry)) verdict (now (room .entry))) ⌝ }
 {
     let allowed = limits::tag_allowed(cop, bits);
     let known = limits::tag_known(kind, status);
-    match tags::candidate_place(room, svn, kind, cop, mack, allowed, known) {
-        Place::At(at) => tags::accept(
+    match tags::candidate_of(room, svn, kind, cop, mack, allowed, known) {
+        Candidate::At(at) => tags::accept(
             room,
             at,
-            kind == tags::TIMING,
+            kind == TIMING_KIND,
             svn.0,
             bits,
             status,
             given,
             verdict,
         ),
-        Place::Refused(why) => Tagged::Refused(why),
+        Candidate::Refused(why) => Tagged::Refused(why),
     }
 }
 
 // Whether a tag of this kind and COP has a candidate.
 pub fn candidate(room: &[u8], svn: Svn, kind: u8, cop: u8, mack: Gst) -> Reply
-    ensures { λ r. ⌜ answerOf r ≡ candidateAnswer (svn .0) kind cop (mack .wn .0) (mack .tow .0) (now (room .entry)) ⌝ }
+    ensures { λ r. ⌜ replyAnswer r ≡ candidateAnswer (svn .0) kind cop (mack .wn .0) (mack .tow .0) (now (room .entry)) ⌝ }
 {
-    let allowed = limits::cop_allowed(cop);
-    let known = limits::kind_known(kind);
-    match tags::candidate_place(room, svn, kind, cop, mack, allowed, known) {
-        Place::At(_) => Reply::Done,
-        Place::Refused(why) => Reply::Refused(why),
+    match tags::candidate_shown(room, svn, kind, cop, mack) {
+        Candidate::At(_) => Reply::Done,
+        Candidate::Refused(why) => Reply::Refused(why),
     }
 }
 
@@ -137,11 +103,9 @@ pub fn candidate(room: &[u8], svn: Svn, kind: u8, cop: u8, mack: Gst) -> Reply
 pub fn candidate_data(room: &[u8], svn: Svn, kind: u8, cop: u8, mack: Gst) -> &[u8]
     ensures { λ r. ⌜ now r ≡ candidateData (svn .0) kind cop (mack .wn .0) (mack .tow .0) (now (room .entry)) ⌝ }
 {
-    let allowed = limits::cop_allowed(cop);
-    let known = limits::kind_known(kind);
-    match tags::candidate_place(room, svn, kind, cop, mack, allowed, known) {
-        Place::At(at) => tags::data_of(room, at, kind == tags::TIMING),
-        Place::Refused(_) => &room[0..0],
+    match tags::candidate_shown(room, svn, kind, cop, mack) {
+        Candidate::At(at) => lookup::data_of(room, at, kind == TIMING_KIND),
+        Candidate::Refused(_) => &room[0..0],
     }
 }
 
@@ -157,20 +121,12 @@ pub enum Asked {
     Refused(Refusal),
 }
 
-// "Asking 3, 4, 12, 7"
 fn ask_for(room: &[u8], timing: bool, svn: Svn) -> Asked
     ensures { λ r. ⌜ askedAnswer r ≡ askAnswer (familyIf timing) (svn .0) (now (room .entry)) ⌝ }
 {
-    if !store::is_store(room) {
-        return Asked::Refused(Refusal::NotAStore);
-    }
-    if !svn.is_satellite() {
-        return Asked::Refused(Refusal::NoSatellite);
-    }
-    match ask::ask(room, timing, svn.0) {
-        ask::Asked::Told(_, authbits, gst) => Asked::Found(Reading { authbits, gst }),
-        ask::Asked::NotEnough => Asked::Refused(Refusal::NotEnough),
-        ask::Asked::OutOfTime => Asked::Refused(Refusal::OutOfTime),
+    match ask::ask(room, timing, svn) {
+        Answered::Record(_, authbits, gst) => Asked::Found(Reading { authbits, gst }),
+        Answered::Refused(why) => Asked::Refused(why),
     }
 }
 
@@ -178,16 +134,9 @@ fn ask_for(room: &[u8], timing: bool, svn: Svn) -> Asked
 fn data_for(room: &[u8], timing: bool, svn: Svn) -> &[u8]
     ensures { λ r. ⌜ now r ≡ askData (familyIf timing) (svn .0) (now (room .entry)) ⌝ }
 {
-    if !store::is_store(room) {
-        return &room[0..0];
-    }
-    if !svn.is_satellite() {
-        return &room[0..0];
-    }
-    match ask::ask(room, timing, svn.0) {
-        ask::Asked::Told(at, _, _) => tags::data_of(room, at, timing),
-        ask::Asked::NotEnough => &room[0..0],
-        ask::Asked::OutOfTime => &room[0..0],
+    match ask::ask(room, timing, svn) {
+        Answered::Record(at, _, _) => lookup::data_of(room, at, timing),
+        Answered::Refused(_) => &room[0..0],
     }
 }
 

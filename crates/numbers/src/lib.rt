@@ -1,19 +1,35 @@
-// "numbers big-endian": two and four bytes of a slice, read and written. A read is one sum, so that it becomes one load.
+// Bytes as wider numbers, and "numbers big-endian": two and four bytes of a slice, read and written. A read is one sum, so that it
+// becomes one load.
 ghost use mathlib.Core.Path.{_≡_};
 ghost use Prim.Native.Nat.{_+_, _≤_, _<_};
 ghost use lib.ListN.{length};
 ghost use Rattle.paper.specs.Big.{be16, be32, put16, put32};
 
-fn wide16(x: u8) -> u16
+// A byte as a number of 16 bits.
+pub fn as_u16(x: u8) -> u16
     ensures { λ r. ⌜ (r ≡ x) × (r < 256) ⌝ }
 {
     x as u16
 }
 
-fn wide32(x: u16) -> u32
-    ensures { λ r. ⌜ r ≡ x ⌝ }
+// A byte as a number of 32 bits.
+pub fn as_u32(x: u8) -> u32
+    ensures { λ r. ⌜ (r ≡ x) × (r < 256) ⌝ }
 {
     x as u32
+}
+
+// A byte as a length or an index.
+pub fn as_usize(x: u8) -> usize
+    ensures { λ r. ⌜ (r ≡ x) × (r < 256) ⌝ }
+{
+    x as usize
+}
+
+fn widened(n: u16) -> u32
+    ensures { λ r. ⌜ r ≡ n ⌝ }
+{
+    n as u32
 }
 
 // The number in the two bytes at `at`.
@@ -21,7 +37,7 @@ pub fn read16(s: &[u8], at: usize) -> u16
     requires { ⌜ at + 2 ≤ length (now s) ⌝ }
     ensures { λ r. ⌜ r ≡ be16 (now (s .entry)) at ⌝ }
 {
-    wide16(s[at]) * 256 + wide16(s[at + 1])
+    as_u16(s[at]) * 256 + as_u16(s[at + 1])
 }
 
 // The number in the four bytes at `at`.
@@ -29,7 +45,7 @@ pub fn read32(s: &[u8], at: usize) -> u32
     requires { ⌜ at + 4 ≤ length (now s) ⌝ }
     ensures { λ r. ⌜ r ≡ be32 (now (s .entry)) at ⌝ }
 {
-    wide32(read16(s, at)) * 65536 + wide32(read16(s, at + 2))
+    widened(read16(s, at)) * 65536 + widened(read16(s, at + 2))
 }
 
 // x into the two bytes at `at`.

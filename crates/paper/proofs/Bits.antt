@@ -11,10 +11,10 @@ use borrow.Author.Tests.{eqb-true, eq-eqb}
 use lib.Dec.{eqb, lit<}
 use lib.ListN.{length, getD, set, length-set}
 use lib.Seq.{set-getD, set-out, getD-set-same, getD-set-other, ext-getD}
-use Rattle.paper.specs.Bits.{weightOf, bitAt, putBit, moved, changed}
+use Rattle.paper.specs.Bits.{spliced, weightOf, bitAt, putBit, moved, changed}
 use Rattle.paper.specs.Parts.{Bytes}
 use Rattle.paper.proofs.Bytes.{bytes-set}
-use Rattle.paper.proofs.Digits.{low-digit, same-digits, spliced, spliced-above, spliced-inside, spliced-below, spliced-lt, one-spliced}
+use Rattle.paper.proofs.Digits.{low-digit, same-digits, spliced-above, spliced-inside, spliced-below, spliced-lt, one-spliced}
 
 -- ---- one bit
 pub bit-small : (s : List ℕ) (i : ℕ) → bitAt s i < 2

@@ -6,6 +6,7 @@ use native.Mathlib.Omega.{arith}
 use native.Mathlib.Nat.{mod-lt, div-eq-of-lt}
 use lib.Arith.{digits-lt}
 use lib.Pow.{pow-pos, pow-add, shr-lt, shr-shr, split, high, low, mod-pow-add, field, mod-mod-pow}
+use Rattle.paper.specs.Bits.{spliced}
 
 -- the digits below the k-th do not see what is above
 pub low-digit : (k t x : ℕ) → t < k → x % 2 ^ k / 2 ^ t % 2 ≡ x / 2 ^ t % 2
@@ -40,10 +41,6 @@ same-digits (suc k) a b ha hb e =
     whole x h =
         let s : 1 + k ≡ suc k = omega arith in
         sym (split x (suc k)) ∙ rw (div-eq-of-lt h) (omega (arith, rw s at (low-parts x k)))
-
--- b with the k digits from weight 2 ^ s made v
-abbrev pub spliced : ℕ → ℕ → ℕ → ℕ → ℕ
-spliced s k b v = b / 2 ^ (k + s) * 2 ^ (k + s) + (v * 2 ^ s + b % 2 ^ s)
 
 module _ (s k b v : ℕ) (small : v < 2 ^ k) where
   pub rest-lt : v * 2 ^ s + b % 2 ^ s < 2 ^ (k + s)

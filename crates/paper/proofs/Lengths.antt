@@ -10,16 +10,17 @@ use lib.ListN.{length, drop, set, replicate, length-set, length-append, length-r
 use Rattle.paper.specs.Big.{put16}
 use Rattle.paper.specs.Bits.{moved, changed}
 use Rattle.paper.specs.Parts.{onPart}
-use Rattle.paper.specs.Record.{Family, CED, Timing, dataBytes, ages, size, dataAt, satellite, count, dataOf, withCount, older, aged, blankRecord}
-use Rattle.paper.specs.Room.{slotSize, rowSize, recordOf, eachRecord}
+use Rattle.paper.specs.Record.{Family, CED, Timing, dataBytes, ages, satelliteAt, countAt, agesAt, dataAt, size, satellite}
+use Rattle.paper.specs.Record.{count, mostCount, dataOf, withCount, withAges, neverThere, oldest, older, aged, blankRecord}
+use Rattle.paper.specs.Room.{markAt, weekAt, timeAt, headSize, slotSize, rowSize, recordOf, eachRecord}
 use Rattle.paper.specs.Word.{Owned, nothing, owns, owned, typeOf, taken, written, fedRecord}
 use Rattle.paper.specs.Fresh.{blankSlot, blankRow}
 use Rattle.paper.specs.Feed.{agedRow, markedAt, lastGreatest, chosen, key, fedFamily, fedRow}
-use Rattle.paper.specs.Tag.{matches, mostCount, credited}
+use Rattle.paper.specs.Tag.{matches, credited}
 use Rattle.paper.proofs.Big.{length-put16, length-put32}
 use Rattle.paper.proofs.Bits.{length-moved}
 use Rattle.paper.proofs.Parts.{Keeps, onPart-length, onParts-length}
-use Rattle.paper.proofs.Views.{record-parts, onRecord-length, eachRecord-length}
+use Rattle.paper.proofs.Views.{onRecord-length, eachRecord-length}
 
 -- ---- changes that keep the length of a record
 pub keeps-const : (k : ℕ) (l : List ℕ) → length l ≡ k → Keeps (λ (_ : List ℕ). l) k
@@ -29,20 +30,36 @@ pub keeps-map : (k : ℕ) (g : ℕ → ℕ) → Keeps (map g) k
 keeps-map k g r h = length-map r g ∙ h
 
 pub keeps-withCount : (k c : ℕ) → Keeps (withCount c) k
-keeps-withCount k c r h = length-put16 r 1 c ∙ h
+keeps-withCount k c r h = length-put16 r countAt c ∙ h
 
 pub keeps-aged : (f : Family) (by : ℕ) → Keeps (aged f by) (size f)
 unfolding aged
 keeps-aged f by r h =
-    onPart-length (map (older by)) (ages f) (keeps-map (ages f) (older by)) 3 r (omega (arith, record-parts f)) ∙ h
+    onPart-length (map (older by)) (ages f) (keeps-map (ages f) (older by)) agesAt r (omega arith) ∙ h
+
+pub keeps-withAges : (f : Family) (new : List ℕ) → length new ≡ ages f → Keeps (withAges f new) (size f)
+keeps-withAges f new e r h = onPart-length (λ (_ : List ℕ). new) (ages f) (keeps-const (ages f) new e) agesAt r (omega arith) ∙ h
+
+pub keeps-neverThere : (f : Family) → Keeps (neverThere f) (size f)
+keeps-neverThere f r h = keeps-withAges f (replicate (ages f) oldest) (length-replicate (ages f) oldest) r h
+
+pub length-blank : (f : Family) → length (blankRecord f) ≡ size f
+unfolding blankRecord
+length-blank f = keeps-neverThere f (replicate (size f) 0) (length-replicate (size f) 0)
 
 pub keeps-taken : (f : Family) (sat : ℕ) → Keeps (taken f sat) (size f)
 unfolding taken
 keeps-taken f sat r h = go (eqb (satellite r) sat || eqb (satellite r) 0)
   where
-    go : (b : Bool) → length (cond b (set r 0 sat) (sat ∷ 0 ∷ 0 ∷ (replicate (ages f) 255 ++ drop (dataAt f) r))) ≡ size f
-    go true = simp length-set h
-    go false = simp (length-append, length-replicate, length-drop) (omega (arith, record-parts f))
+    mine : List ℕ
+    mine = set r satelliteAt sat
+
+    length-mine : length mine ≡ size f
+    length-mine = length-set r satelliteAt sat ∙ h
+
+    go : (b : Bool) → length (cond b mine (neverThere f (withCount 0 mine))) ≡ size f
+    go true = length-mine
+    go false = keeps-neverThere f (withCount 0 mine) (keeps-withCount (size f) 0 mine length-mine)
 
 pub keeps-moved : (k to : ℕ) (word : List ℕ) (from n : ℕ) → Keeps (λ (x : List ℕ). moved x to word from n) k
 keeps-moved k to word from n x h = length-moved x to word from n ∙ h
@@ -58,12 +75,12 @@ keeps-written f (owns to from n age) word r h = go (changed (dataOf f r) to word
     length-move : length move ≡ size f
     length-move =
         onPart-length (λ (x : List ℕ). moved x to word from n) (dataBytes f) (keeps-moved (dataBytes f) to word from n) (dataAt f) r
-        (omega (arith, record-parts f))
+        (omega arith)
         ∙ h
 
-    go : (b : Bool) → length (cond b (withCount 0 (set move (3 + age) 0)) (set move (3 + age) 0)) ≡ size f
-    go true = keeps-withCount (size f) 0 (set move (3 + age) 0) (length-set move (3 + age) 0 ∙ length-move)
-    go false = length-set move (3 + age) 0 ∙ length-move
+    go : (b : Bool) → length (cond b (withCount 0 (set move (agesAt + age) 0)) (set move (agesAt + age) 0)) ≡ size f
+    go true = keeps-withCount (size f) 0 (set move (agesAt + age) 0) (length-set move (agesAt + age) 0 ∙ length-move)
+    go false = length-set move (agesAt + age) 0 ∙ length-move
 
 pub keeps-fedRecord : (f : Family) (sat band : ℕ) (word : List ℕ) → Keeps (fedRecord f sat band word) (size f)
 unfolding fedRecord
@@ -81,7 +98,7 @@ keeps-credited k f sat bits l r h = go (matches f sat bits r)
 -- ---- changes that keep the length of a row
 pub keeps-markedAt : (k w t : ℕ) → Keeps (markedAt w t) k
 unfolding markedAt
-keeps-markedAt k w t r h = length-put32 (put16 (set r 0 1) 1 w) 3 t ∙ length-put16 (set r 0 1) 1 w ∙ length-set r 0 1 ∙ h
+keeps-markedAt k w t r h = length-put32 (put16 (set r markAt 1) weekAt w) timeAt t ∙ length-put16 (set r markAt 1) weekAt w ∙ length-set r markAt 1 ∙ h
 
 pub keeps-agedRow : (n : ℕ) → Keeps (agedRow n) (rowSize n)
 unfolding agedRow
@@ -90,15 +107,15 @@ keeps-agedRow n row l =
     (eachRecord-length CED (aged CED 1) (keeps-aged CED 1) n row l)
 
 pub length-blankSlot : length blankSlot ≡ slotSize
-unfolding blankSlot blankRecord
-length-blankSlot = refl
+unfolding blankSlot
+length-blankSlot = length-append (blankRecord CED) (blankRecord Timing) ∙ omega (arith, length-blank CED, length-blank Timing)
 
 pub keeps-blankRow : (n : ℕ) → Keeps (blankRow n) (rowSize n)
 unfolding blankRow
 keeps-blankRow n row l =
-    let h : List ℕ = onPart (λ (_ : List ℕ). replicate 8 0) 0 8 row in
-    let e : length h ≡ rowSize n = onPart-length (λ (_ : List ℕ). replicate 8 0) 8 (keeps-const 8 (replicate 8 0) refl) 0 row (omega arith) ∙ l in
-    onParts-length (λ (_ : List ℕ). blankSlot) slotSize (keeps-const slotSize blankSlot length-blankSlot) n 8 h (omega arith) ∙ e
+    let h : List ℕ = onPart (λ (_ : List ℕ). replicate headSize 0) 0 headSize row in
+    let e : length h ≡ rowSize n = onPart-length (λ (_ : List ℕ). replicate headSize 0) headSize (keeps-const headSize (replicate headSize 0) refl) 0 row (omega arith) ∙ l in
+    onParts-length (λ (_ : List ℕ). blankSlot) slotSize (keeps-const slotSize blankSlot length-blankSlot) n headSize h (omega arith) ∙ e
 
 -- the last of the greatest keys lies among them
 pub lastGreatest-lt : (k : ℕ → ℕ) (n : ℕ) → 1 ≤ n → lastGreatest k n < n

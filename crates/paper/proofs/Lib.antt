@@ -1,3 +1,4 @@
+pub mod Order
 pub mod Parts
 pub mod First
 pub mod Bytes
@@ -9,5 +10,8 @@ pub mod Lengths
 pub mod WordViews
 pub mod CallViews
 pub mod StoreFacts
+pub mod WordTable
 pub mod RecordViews
 pub mod Same
+pub mod Opens
+pub mod Shorter

@@ -8,7 +8,7 @@ use mathlib.Core.List.{List, [], _∷_, _++_, append-assoc}
 use mathlib.Core.Bool.{Bool, true, false, _&&_}
 use mathlib.Core.Logic.{_⊎_, ⊎-elim}
 use Prim.Native.Nat.{ℕ, zero, suc, _+_, _*_, _-_, _≤_, _<_}
-use lib.ListN.{length, take, drop, getD, set, length-take, length-drop, List·getD-append, take-append-drop}
+use lib.ListN.{length, take, drop, getD, set, replicate, length-take, length-drop, length-replicate, replicate-append-replicate, List·getD-append, take-append-drop}
 use lib.Seq.{take-nil, take-take, drop-drop, take-at, drop-at, drop-append-le, take-add, length-take-le, getD-take, getD-drop, getD-append-add, paste, paste-suc, length-paste-head}
 use borrow.Rule.Slice.PartMut.{same-len-mid, take-put, drop-put, put-same, set-mid-at}
 use Rattle.paper.specs.Parts.{part, onPart, onParts, allParts, sumParts}
@@ -34,7 +34,7 @@ at-next : (at j k : ℕ) → at + suc j * k ≡ at + k + j * k
 at-next at j k = omega (arith, suc-mul j k)
 
 -- ---- a part
-drop-take : (a m : ℕ) (l : List ℕ) → drop a (take m l) ≡ take (m - a) (drop a l)
+pub drop-take : (a m : ℕ) (l : List ℕ) → drop a (take m l) ≡ take (m - a) (drop a l)
 drop-take zero m l = rw sub-zero
 drop-take (suc a) zero l = rw zero-sub
 drop-take (suc a) (suc m) [] = sym (take-nil (suc m - suc a))
@@ -489,3 +489,13 @@ copy-turn l r from to w i d a b h q =
 pub copy-done : (l : List ℕ) (from to k : ℕ) → paste l to (drop from l) k ≡ onPart (λ r. part from k l) to k l
 unfolding onPart
 copy-done l from to k = rw drop-drop (append-assoc (take to l) (part from k l) (drop (to + k) l))
+
+-- a part of bytes that are all the same
+pub part-replicate : (at k n x : ℕ) → at + k ≤ n → part at k (replicate n x) ≡ replicate k x
+part-replicate at k n x h =
+    let rest : ℕ = n - at - k in
+    let e : n ≡ at + (k + rest) = omega arith in
+    let s = sym (replicate-append-replicate at (k + rest) x) in
+    let u = sym (replicate-append-replicate k rest x) in
+    rw (e, s, drop-at (replicate at x) (replicate (k + rest) x) at (length-replicate at x), u)
+    (take-at (replicate k x) (replicate rest x) k (length-replicate k x))

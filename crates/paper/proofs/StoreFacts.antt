@@ -10,12 +10,15 @@ use borrow.Author.Tests.{ltb-true, leb-true, eqb-true, eqb-false, eq-eqb, ne-eqb
 use lib.ListN.{length, getD}
 use Rattle.paper.specs.Big.{be16, be32}
 use Rattle.paper.specs.Parts.{part, allParts}
-use Rattle.paper.specs.Record.{Family, CED, Timing, size, satellite, count}
-use Rattle.paper.specs.Room.{mostRows, mostSlots, slotSize, base, rowSize, roomSize, depth, slots, current, rowOf, mark, week, time, spare, recordOf}
-use Rattle.paper.specs.Store.{sizesAllowed, headerInRange, headerZeros, satelliteAllowed, countHasSatellite, noBitPast, recordAllowed, slotAllowed, markAllowed, subframeAllowed, blankAllowed, mostIn, rowAllowed, isStore}
+use Rattle.paper.specs.Record.{Family, CED, Timing, lastWeight, size, satellite, count}
+use Rattle.paper.specs.Room.{mostRows, mostSlots, currentAt, zerosAt, headerSize, headSize, slotSize, slotAt, base, rowSize}
+use Rattle.paper.specs.Room.{roomSize, depth, slots, current, rowOf, mark, week, time, spare, recordOf}
+use Rattle.paper.specs.Store.{sizesAllowed, headerInRange, InRange, headerZeros, satelliteAllowed, countHasSatellite, noBitPast, recordAllowed}
+use Rattle.paper.specs.Store.{slotAllowed, markAllowed, subframeAllowed, blankAllowed, mostIn, rowAllowed, isStore}
 use Rattle.paper.specs.Satellite.{mostSatellites}
+use Rattle.paper.specs.Time.{subframeSeconds, lastStart}
 use Rattle.paper.proofs.Parts.{all-part, all-true}
-use Rattle.paper.proofs.Views.{Facts, record-in-slot}
+use Rattle.paper.proofs.Views.{record-in-slot}
 
 -- ---- tests
 pub both-true : (a b : Bool) → a && b ≡ true → (a ≡ true) × (b ≡ true)
@@ -38,22 +41,22 @@ sizes-allowed d n a b c e = rw (le-leb 1 d a, le-leb d mostRows b, le-leb 1 n c,
 
 -- what the test of a room says
 record Clauses (room : List ℕ) : Type 0 where
-  long : leb 8 (length room) ≡ true
+  long : leb headerSize (length room) ≡ true
   inRange : headerInRange room ≡ true
   zeros : headerZeros room ≡ true
   fits : leb (roomSize (depth room) (slots room)) (length room) ≡ true
-  rows : allParts (rowAllowed (slots room)) (rowSize (slots room)) (depth room) 8 room ≡ true
+  rows : allParts (rowAllowed (slots room)) (rowSize (slots room)) (depth room) headerSize room ≡ true
 
 clauses : (room : List ℕ) → isStore room ≡ true → Clauses room
 unfolding isStore
 clauses room e =
     let a = both-true
-    (leb 8 (length room) && headerInRange room && headerZeros room && leb (roomSize (depth room) (slots room)) (length room))
-    (allParts (rowAllowed (slots room)) (rowSize (slots room)) (depth room) 8 room)
+    (leb headerSize (length room) && headerInRange room && headerZeros room && leb (roomSize (depth room) (slots room)) (length room))
+    (allParts (rowAllowed (slots room)) (rowSize (slots room)) (depth room) headerSize room)
     e in
-    let b = both-true (leb 8 (length room) && headerInRange room && headerZeros room) (leb (roomSize (depth room) (slots room)) (length room)) (a .0) in
-    let c = both-true (leb 8 (length room) && headerInRange room) (headerZeros room) (b .0) in
-    let d = both-true (leb 8 (length room)) (headerInRange room) (c .0) in
+    let b = both-true (leb headerSize (length room) && headerInRange room && headerZeros room) (leb (roomSize (depth room) (slots room)) (length room)) (a .0) in
+    let c = both-true (leb headerSize (length room) && headerInRange room) (headerZeros room) (b .0) in
+    let d = both-true (leb headerSize (length room)) (headerInRange room) (c .0) in
     record { long = d .0; inRange = d .1; zeros = c .1; fits = b .1; rows = a .1 }
 
 header-facts : (room : List ℕ) → headerInRange room ≡ true → (sizesAllowed (depth room) (slots room) ≡ true) × (current room < depth room)
@@ -62,17 +65,17 @@ header-facts room e =
     let a = both-true (sizesAllowed (depth room) (slots room)) (ltb (current room) (depth room)) e in
     (a .0, ltb-true (current room) (depth room) (a .1))
 
-pub store-facts : (room : List ℕ) → isStore room ≡ true → Facts room
+pub store-facts : (room : List ℕ) → isStore room ≡ true → InRange room
 store-facts room e =
     let c = clauses room e in
     let h = header-facts room (c .inRange) in
     let s = sizes-facts (depth room) (slots room) (h .0) in
     record {
-      long = leb-true 8 (length room) (c .long);
-      rows1 = s .0;
-      rows16 = s .1;
-      slots1 = s .2;
-      slots36 = s .3;
+      long = leb-true headerSize (length room) (c .long);
+      someRow = s .0;
+      rowsWithin = s .1;
+      someSlot = s .2;
+      slotsWithin = s .3;
       inRing = h .1;
       fits = leb-true (roomSize (depth room) (slots room)) (length room) (c .fits);
     }
@@ -81,50 +84,57 @@ pub store-zeros : (room : List ℕ) → isStore room ≡ true → headerZeros ro
 store-zeros room e = clauses room e .zeros
 
 pub store-row : (room : List ℕ) → isStore room ≡ true → (r : ℕ) → r < depth room → rowAllowed (slots room) (rowOf r room) ≡ true
-store-row room e r h = all-part (rowAllowed (slots room)) (rowSize (slots room)) (depth room) 8 room (clauses room e .rows) r h
+store-row room e r h = all-part (rowAllowed (slots room)) (rowSize (slots room)) (depth room) headerSize room (clauses room e .rows) r h
 
 -- and back
-in-range : (room : List ℕ) → Facts room → headerInRange room ≡ true
+in-range : (room : List ℕ) → InRange room → headerInRange room ≡ true
 unfolding headerInRange
 in-range room F =
     true-both (sizesAllowed (depth room) (slots room)) (ltb (current room) (depth room))
-    (sizes-allowed (depth room) (slots room) (F .rows1) (F .rows16) (F .slots1) (F .slots36))
+    (sizes-allowed (depth room) (slots room) (F .someRow) (F .rowsWithin) (F .someSlot) (F .slotsWithin))
     (lt-ltb (current room) (depth room) (F .inRing))
 
-pub facts-store : (room : List ℕ) → Facts room → headerZeros room ≡ true
+pub facts-store : (room : List ℕ) → InRange room → headerZeros room ≡ true
     → ((r : ℕ) → r < depth room → rowAllowed (slots room) (rowOf r room) ≡ true) → isStore room ≡ true
 unfolding isStore
 facts-store room F z rows =
-    rw (le-leb 8 (length room) (F .long), in-range room F, z, le-leb (roomSize (depth room) (slots room)) (length room) (F .fits))
-    (all-true (rowAllowed (slots room)) (rowSize (slots room)) (depth room) 8 room rows)
+    rw (le-leb headerSize (length room) (F .long), in-range room F, z, le-leb (roomSize (depth room) (slots room)) (length room) (F .fits))
+    (all-true (rowAllowed (slots room)) (rowSize (slots room)) (depth room) headerSize room rows)
 
 -- the five zeros of the header
-pub zeros-same : (x y : List ℕ) → ((i : ℕ) → i < 8 → i ≢ 2 → getD y i 0 ≡ getD x i 0) → headerZeros x ≡ true → headerZeros y ≡ true
+pub zeros-same : (x y : List ℕ) → ((i : ℕ) → i < headerSize → i ≢ currentAt → getD y i 0 ≡ getD x i 0) → headerZeros x ≡ true → headerZeros y ≡ true
 unfolding headerZeros be32 be16
 zeros-same x y e z =
-    rw (e 3 (omega arith) (omega arith), e 4 (omega arith) (omega arith), e 5 (omega arith) (omega arith), e 6 (omega arith) (omega arith), e 7 (omega arith) (omega arith)) z
+    rw (
+      e zerosAt (omega arith) (omega arith),
+      e (zerosAt + 1) (omega arith) (omega arith),
+      e (zerosAt + 2) (omega arith) (omega arith),
+      e (zerosAt + 3) (omega arith) (omega arith),
+      e (zerosAt + 4) (omega arith) (omega arith),
+    )
+    z
 
 -- ---- a record
 pub record RecordFacts (f : Family) (most : ℕ) (rec : List ℕ) : Type 0 where
   pub known : satellite rec ≤ most
   pub none : satellite rec ≡ 0 → count rec ≡ 0
-  pub clear : getD rec (size f - 1) 0 % 8 ≡ 0
+  pub clear : getD rec (size f - 1) 0 % lastWeight ≡ 0
 
 pub record-facts : (f : Family) (most : ℕ) (rec : List ℕ) → recordAllowed f most rec ≡ true → RecordFacts f most rec
 unfolding recordAllowed satelliteAllowed countHasSatellite noBitPast
 record-facts f most rec e =
-    let a = both-true (leb (satellite rec) most && (not (eqb (satellite rec) 0) || eqb (count rec) 0)) (eqb (getD rec (size f - 1) 0 % 8) 0) e in
+    let a = both-true (leb (satellite rec) most && (not (eqb (satellite rec) 0) || eqb (count rec) 0)) (eqb (getD rec (size f - 1) 0 % lastWeight) 0) e in
     let b = both-true (leb (satellite rec) most) (not (eqb (satellite rec) 0) || eqb (count rec) 0) (a .0) in
     record {
       known = leb-true (satellite rec) most (b .0);
       none = λ z. eqb-true (count rec) 0 (rw (eq-eqb (satellite rec) 0 z) at (b .1));
-      clear = eqb-true (getD rec (size f - 1) 0 % 8) 0 (a .1);
+      clear = eqb-true (getD rec (size f - 1) 0 % lastWeight) 0 (a .1);
     }
 
 pub record-allowed : (f : Family) (most : ℕ) (rec : List ℕ) → RecordFacts f most rec → recordAllowed f most rec ≡ true
 unfolding recordAllowed satelliteAllowed countHasSatellite noBitPast
 record-allowed f most rec R =
-    rw (le-leb (satellite rec) most (R .known), eq-eqb (getD rec (size f - 1) 0 % 8) 0 (R .clear), counted (eqb (satellite rec) 0) refl)
+    rw (le-leb (satellite rec) most (R .known), eq-eqb (getD rec (size f - 1) 0 % lastWeight) 0 (R .clear), counted (eqb (satellite rec) 0) refl)
   where
     counted : (b : Bool) → eqb (satellite rec) 0 ≡ b → not b || eqb (count rec) 0 ≡ true
     counted true e = eq-eqb (count rec) 0 (R .none (eqb-true (satellite rec) 0 e))
@@ -135,17 +145,17 @@ pub record RowFacts (n : ℕ) (row : List ℕ) : Type 0 where
   pub mark1 : mark row ≤ 1
   pub spare0 : spare row ≡ 0
   pub blank : mark row ≡ 0 → (week row ≡ 0) × (time row ≡ 0)
-  pub subframe : mark row ≡ 1 → (time row ≤ 604770) × (time row % 30 ≡ 0)
+  pub subframe : mark row ≡ 1 → (time row ≤ lastStart) × (time row % subframeSeconds ≡ 0)
   pub records : (f : Family) (i : ℕ) → i < n → RecordFacts f (mostIn row) (recordOf f i row)
 
 -- what the test of a slot says of its two records, and back
-pub slot-record : (most i : ℕ) (row : List ℕ) → slotAllowed most (part (8 + i * slotSize) slotSize row) ≡ true
+pub slot-record : (most i : ℕ) (row : List ℕ) → slotAllowed most (part (slotAt i) slotSize row) ≡ true
     → (f : Family) → recordAllowed f most (recordOf f i row) ≡ true
 unfolding slotAllowed
 slot-record most i row e f = rw (record-in-slot f i row) at (one f)
   where
     slot : List ℕ
-    slot = part (8 + i * slotSize) slotSize row
+    slot = part (slotAt i) slotSize row
 
     two : (recordAllowed CED most (part (base CED) (size CED) slot) ≡ true) × (recordAllowed Timing most (part (base Timing) (size Timing) slot) ≡ true)
     two = both-true (recordAllowed CED most (part (base CED) (size CED) slot)) (recordAllowed Timing most (part (base Timing) (size Timing) slot)) e
@@ -155,11 +165,11 @@ slot-record most i row e f = rw (record-in-slot f i row) at (one f)
     one Timing = two .1
 
 pub records-slot : (most i : ℕ) (row : List ℕ) → ((f : Family) → recordAllowed f most (recordOf f i row) ≡ true)
-    → slotAllowed most (part (8 + i * slotSize) slotSize row) ≡ true
+    → slotAllowed most (part (slotAt i) slotSize row) ≡ true
 unfolding slotAllowed
 records-slot most i row e =
-    true-both (recordAllowed CED most (part (base CED) (size CED) (part (8 + i * slotSize) slotSize row)))
-    (recordAllowed Timing most (part (base Timing) (size Timing) (part (8 + i * slotSize) slotSize row)))
+    true-both (recordAllowed CED most (part (base CED) (size CED) (part (slotAt i) slotSize row)))
+    (recordAllowed Timing most (part (base Timing) (size Timing) (part (slotAt i) slotSize row)))
     (rw (record-in-slot CED i row) (e CED))
     (rw (record-in-slot Timing i row) (e Timing))
 
@@ -185,11 +195,11 @@ pub row-facts : (n : ℕ) (row : List ℕ) → rowAllowed n row ≡ true → Row
 unfolding rowAllowed markAllowed blankAllowed subframeAllowed
 row-facts n row e =
     let a = both-true
-    (leb (mark row) 1 && eqb (spare row) 0 && cond (eqb (mark row) 0) (eqb (week row) 0 && eqb (time row) 0) (leb (time row) 604770 && eqb (time row % 30) 0))
-    (allParts (slotAllowed (mostIn row)) slotSize n 8 row)
+    (leb (mark row) 1 && eqb (spare row) 0 && cond (eqb (mark row) 0) (eqb (week row) 0 && eqb (time row) 0) (leb (time row) lastStart && eqb (time row % subframeSeconds) 0))
+    (allParts (slotAllowed (mostIn row)) slotSize n headSize row)
     e in
     let b = both-true (leb (mark row) 1 && eqb (spare row) 0)
-    (cond (eqb (mark row) 0) (eqb (week row) 0 && eqb (time row) 0) (leb (time row) 604770 && eqb (time row % 30) 0))
+    (cond (eqb (mark row) 0) (eqb (week row) 0 && eqb (time row) 0) (leb (time row) lastStart && eqb (time row % subframeSeconds) 0))
     (a .0) in
     let c = both-true (leb (mark row) 1) (eqb (spare row) 0) (b .0) in
     record {
@@ -199,28 +209,28 @@ row-facts n row e =
           let y = both-true (eqb (week row) 0) (eqb (time row) 0) (rw (eq-eqb (mark row) 0 z) at (b .1)) in
           (eqb-true (week row) 0 (y .0), eqb-true (time row) 0 (y .1));
       subframe = λ z.
-          let y = both-true (leb (time row) 604770) (eqb (time row % 30) 0) (rw (ne-eqb (mark row) 0 (λ q. omega (arith, q, z))) at (b .1)) in
-          (leb-true (time row) 604770 (y .0), eqb-true (time row % 30) 0 (y .1));
+          let y = both-true (leb (time row) lastStart) (eqb (time row % subframeSeconds) 0) (rw (ne-eqb (mark row) 0 (λ q. omega (arith, q, z))) at (b .1)) in
+          (leb-true (time row) lastStart (y .0), eqb-true (time row % subframeSeconds) 0 (y .1));
       records = λ f i h.
           record-facts f (mostIn row) (recordOf f i row)
-          (slot-record (mostIn row) i row (all-part (slotAllowed (mostIn row)) slotSize n 8 row (a .1) i h) f);
+          (slot-record (mostIn row) i row (all-part (slotAllowed (mostIn row)) slotSize n headSize row (a .1) i h) f);
     }
 
 pub row-allowed : (n : ℕ) (row : List ℕ) → RowFacts n row → rowAllowed n row ≡ true
 unfolding rowAllowed markAllowed blankAllowed subframeAllowed
 row-allowed n row R =
     rw (le-leb (mark row) 1 (R .mark1), eq-eqb (spare row) 0 (R .spare0), head (eqb (mark row) 0) refl)
-    (all-true (slotAllowed (mostIn row)) slotSize n 8 row
+    (all-true (slotAllowed (mostIn row)) slotSize n headSize row
     (λ i h. records-slot (mostIn row) i row (λ f. record-allowed f (mostIn row) (recordOf f i row) (R .records f i h))))
   where
-    head : (b : Bool) → eqb (mark row) 0 ≡ b → cond b (eqb (week row) 0 && eqb (time row) 0) (leb (time row) 604770 && eqb (time row % 30) 0) ≡ true
+    head : (b : Bool) → eqb (mark row) 0 ≡ b → cond b (eqb (week row) 0 && eqb (time row) 0) (leb (time row) lastStart && eqb (time row % subframeSeconds) 0) ≡ true
     head true e =
         let z = R .blank (eqb-true (mark row) 0 e) in
         true-both (eqb (week row) 0) (eqb (time row) 0) (eq-eqb (week row) 0 (z .0)) (eq-eqb (time row) 0 (z .1))
     head false e =
         let one : mark row ≡ 1 = omega (arith, R .mark1, eqb-false (mark row) 0 e) in
         let z = R .subframe one in
-        true-both (leb (time row) 604770) (eqb (time row % 30) 0) (le-leb (time row) 604770 (z .0)) (eq-eqb (time row % 30) 0 (z .1))
+        true-both (leb (time row) lastStart) (eqb (time row % subframeSeconds) 0) (le-leb (time row) lastStart (z .0)) (eq-eqb (time row % subframeSeconds) 0 (z .1))
 
 -- a record of a store
 pub store-record : (room : List ℕ) → isStore room ≡ true → (f : Family) (r : ℕ) → r < depth room → (i : ℕ) → i < slots room

@@ -12,51 +12,54 @@ use lib.Seq.{getD-set-same, getD-set-other, drop-set-lt}
 use Rattle.paper.specs.Big.{put16, put32}
 use Rattle.paper.specs.Parts.{part, onPart}
 use Rattle.paper.specs.Record.{Family, CED, Timing, size, aged}
-use Rattle.paper.specs.Room.{slotSize, base, rowSize, roomSize, depth, slots, current, rowAt, rowOf, mark, week, time, spare, recordAt, recordOf, eachRecord}
+use Rattle.paper.specs.Room.{depthAt, slotsAt, currentAt, headerSize, markAt, weekAt, timeAt, spareAt, headSize, slotSize, base, rowSize, roomSize}
+use Rattle.paper.specs.Room.{depth, slots, current, rowAt, rowOf, mark, week, time, spare, recordAt, recordOf, eachRecord}
 use Rattle.paper.specs.Word.{fedRecord}
-use Rattle.paper.specs.Feed.{nextRow, moves, copied, agedRow, advanced, markedAt, currentMarked, settled, lastGreatest, chosen, key, fedFamily, fedRow, fed}
+use Rattle.paper.specs.Feed.{nextRow, moves, copied, agedRow, advanced, markedAt, currentMarked, settled, lastGreatest, chosen, key, fedFamily, fedRow, fedCurrent, fed}
+use Rattle.paper.specs.Store.{InRange}
 use Rattle.paper.proofs.Big.{length-put16, put16-other, put16-drop, put32-take, put32-drop, be16-put16, be16-before, be32-put32}
 use Rattle.paper.proofs.Parts.{Keeps, length-part, part-part, getD-same-before, getD-same-after, onPart-length, onPart-getD-before, onPart-within, onPart-nested}
-use Rattle.paper.proofs.Views.{rowIn, row-fits, Facts, row-inside, length-rowOf, facts-same, other, slot-fits, onRow-length, onRow-header, onRow-here, onRow-there, onRow-past, header-set-row, onRecord-head, onRecord-here, onRecord-there, onRecord-other, eachRecord-length, eachRecord-head, eachRecord-here, eachRecord-other}
+use Rattle.paper.proofs.Views.{rowIn, row-fits, row-inside, length-rowOf, facts-same, other, slot-fits, onRow-length, onRow-header, onRow-here, onRow-there}
+use Rattle.paper.proofs.Views.{onRow-past, header-set-row, onRecord-head, onRecord-here, onRecord-there, onRecord-other, eachRecord-length, eachRecord-head, eachRecord-here, eachRecord-other}
 use Rattle.paper.proofs.Lengths.{keeps-const, keeps-aged, keeps-fedRecord, keeps-markedAt, keeps-agedRow, lastGreatest-lt, chosen-lt, keeps-fedFamily, keeps-fedRow}
 
 -- ---- a row filled with the records of another
 abbrev pub filled : ℕ → List ℕ → List ℕ → List ℕ
-filled n from row = onPart (λ (_ : List ℕ). part 8 (n * slotSize) from) 8 (n * slotSize) row
+filled n from row = onPart (λ (_ : List ℕ). part headSize (n * slotSize) from) headSize (n * slotSize) row
 
 module _ (n : ℕ) (from row : List ℕ) (lf : length from ≡ rowSize n) (l : length row ≡ rowSize n) where
-  records-keep : Keeps (λ (_ : List ℕ). part 8 (n * slotSize) from) (n * slotSize)
-  records-keep = keeps-const (n * slotSize) (part 8 (n * slotSize) from) (length-part 8 (n * slotSize) from (omega arith))
+  records-keep : Keeps (λ (_ : List ℕ). part headSize (n * slotSize) from) (n * slotSize)
+  records-keep = keeps-const (n * slotSize) (part headSize (n * slotSize) from) (length-part headSize (n * slotSize) from (omega arith))
 
   pub filled-length : length (filled n from row) ≡ rowSize n
-  filled-length = onPart-length (λ (_ : List ℕ). part 8 (n * slotSize) from) (n * slotSize) records-keep 8 row (omega arith) ∙ l
+  filled-length = onPart-length (λ (_ : List ℕ). part headSize (n * slotSize) from) (n * slotSize) records-keep headSize row (omega arith) ∙ l
 
-  pub filled-head : (k : ℕ) → k < 8 → getD (filled n from row) k 0 ≡ getD row k 0
-  filled-head k h = onPart-getD-before (λ (_ : List ℕ). part 8 (n * slotSize) from) (n * slotSize) records-keep 8 row (omega arith) k h
+  pub filled-head : (k : ℕ) → k < headSize → getD (filled n from row) k 0 ≡ getD row k 0
+  filled-head k h = onPart-getD-before (λ (_ : List ℕ). part headSize (n * slotSize) from) (n * slotSize) records-keep headSize row (omega arith) k h
 
   pub filled-record : (f : Family) (i : ℕ) → i < n → recordOf f i (filled n from row) ≡ recordOf f i from
   filled-record f i h =
-      let e : 8 + i * slotSize + base f ≡ 8 + (i * slotSize + base f) = omega arith in
+      let e : recordAt f i ≡ headSize + (i * slotSize + base f) = omega arith in
       let g : i * slotSize + base f + size f ≤ n * slotSize = omega (arith, slot-fits f) in
       rw e
-      (onPart-within (λ (_ : List ℕ). part 8 (n * slotSize) from) (n * slotSize) records-keep 8 row (omega arith) (i * slotSize + base f) (size f) g
-      ∙ part-part (i * slotSize + base f) (size f) 8 (n * slotSize) from g)
+      (onPart-within (λ (_ : List ℕ). part headSize (n * slotSize) from) (n * slotSize) records-keep headSize row (omega arith) (i * slotSize + base f) (size f) g
+      ∙ part-part (i * slotSize + base f) (size f) headSize (n * slotSize) from g)
 
 -- the records of row c copied to row e: that row filled
 pub copied-row : (n c e : ℕ) (room : List ℕ) → rowAt n e + rowSize n ≤ length room
     → copied n (rowAt n c) (rowAt n e) room ≡ onPart (filled n (rowIn n c room)) (rowAt n e) (rowSize n) room
 unfolding copied
 copied-row n c e room h =
-    ap (λ (x : List ℕ). onPart (λ (_ : List ℕ). x) (rowAt n e + 8) (n * slotSize) room)
-    (sym (part-part 8 (n * slotSize) (rowAt n c) (rowSize n) room (omega arith)))
-    ∙ sym (onPart-nested (λ (_ : List ℕ). part 8 (n * slotSize) (rowIn n c room)) 8 (n * slotSize) (rowAt n e) (rowSize n) room (omega arith) h)
+    ap (λ (x : List ℕ). onPart (λ (_ : List ℕ). x) (rowAt n e + headSize) (n * slotSize) room)
+    (sym (part-part headSize (n * slotSize) (rowAt n c) (rowSize n) room (omega arith)))
+    ∙ sym (onPart-nested (λ (_ : List ℕ). part headSize (n * slotSize) (rowIn n c room)) headSize (n * slotSize) (rowAt n e) (rowSize n) room (omega arith) h)
 
 -- ---- a row aged
 module _ (n : ℕ) (row : List ℕ) (l : length row ≡ rowSize n) where
   first-aged : length (eachRecord CED n (aged CED 1) row) ≡ rowSize n
   first-aged = eachRecord-length CED (aged CED 1) (keeps-aged CED 1) n row l
 
-  pub agedRow-head : (k : ℕ) → k < 8 → getD (agedRow n row) k 0 ≡ getD row k 0
+  pub agedRow-head : (k : ℕ) → k < headSize → getD (agedRow n row) k 0 ≡ getD row k 0
   unfolding agedRow
   agedRow-head k h =
       eachRecord-head Timing (aged Timing 1) (keeps-aged Timing 1) n (eachRecord CED n (aged CED 1) row) first-aged k h
@@ -84,9 +87,9 @@ nextRow-lt d c h = go (ltb (c + 1) d) refl
 abbrev pub rowAhead : List ℕ → ℕ
 rowAhead room = nextRow (depth room) (current room)
 
-module _ (room : List ℕ) (F : Facts room) where
+module _ (room : List ℕ) (F : InRange room) where
   ahead-lt : rowAhead room < depth room
-  ahead-lt = nextRow-lt (depth room) (current room) (F .rows1)
+  ahead-lt = nextRow-lt (depth room) (current room) (F .someRow)
 
   length-ahead : length (rowOf (rowAhead room) room) ≡ rowSize (slots room)
   length-ahead = length-rowOf room F (rowAhead room) ahead-lt
@@ -102,17 +105,17 @@ module _ (room : List ℕ) (F : Facts room) where
   copy = onPart (filled (slots room) (rowOf (current room) room)) (rowAt (slots room) (rowAhead room)) (rowSize (slots room)) room
 
   abbrev ahead : List ℕ
-  ahead = set copy 2 (rowAhead room)
+  ahead = set copy currentAt (rowAhead room)
 
   advanced-is : advanced room ≡ onPart (agedRow (slots room)) (rowAt (slots room) (rowAhead room)) (rowSize (slots room)) ahead
   unfolding advanced
   advanced-is =
-      ap (λ (x : List ℕ). onPart (agedRow (slots room)) (rowAt (slots room) (rowAhead room)) (rowSize (slots room)) (set x 2 (rowAhead room)))
+      ap (λ (x : List ℕ). onPart (agedRow (slots room)) (rowAt (slots room) (rowAhead room)) (rowSize (slots room)) (set x currentAt (rowAhead room)))
       (copied-row (slots room) (current room) (rowAhead room) room (row-inside room F (rowAhead room) ahead-lt))
 
   length-before : length ahead ≡ length room
   length-before =
-      length-set copy 2 (rowAhead room)
+      length-set copy currentAt (rowAhead room)
       ∙ onRow-length (slots room) (rowAhead room) (filled (slots room) (rowOf (current room) room)) keeps-filled room (row-inside room F (rowAhead room) ahead-lt)
 
   ahead-inside : rowAt (slots room) (rowAhead room) + rowSize (slots room) ≤ length ahead
@@ -124,41 +127,41 @@ module _ (room : List ℕ) (F : Facts room) where
       ∙ onRow-length (slots room) (rowAhead room) (agedRow (slots room)) (keeps-agedRow (slots room)) ahead ahead-inside
       ∙ length-before
 
-  pub advanced-header : (i : ℕ) → i < 8 → i ≢ 2 → getD (advanced room) i 0 ≡ getD room i 0
+  pub advanced-header : (i : ℕ) → i < headerSize → i ≢ currentAt → getD (advanced room) i 0 ≡ getD room i 0
   advanced-header i h e =
       ap (λ (x : List ℕ). getD x i 0) advanced-is
       ∙ onRow-header (slots room) (rowAhead room) (agedRow (slots room)) (keeps-agedRow (slots room)) ahead ahead-inside i h
-      ∙ getD-set-other copy 2 i (rowAhead room) 0 e
+      ∙ getD-set-other copy currentAt i (rowAhead room) 0 e
       ∙ onRow-header (slots room) (rowAhead room) (filled (slots room) (rowOf (current room) room)) keeps-filled room (row-inside room F (rowAhead room) ahead-lt) i h
 
   pub advanced-current : current (advanced room) ≡ rowAhead room
   advanced-current =
       ap current advanced-is
-      ∙ onRow-header (slots room) (rowAhead room) (agedRow (slots room)) (keeps-agedRow (slots room)) ahead ahead-inside 2 (omega arith)
-      ∙ getD-set-same copy 2 (rowAhead room) 0
-      (omega (arith, length-before, length-set copy 2 (rowAhead room), F .long))
+      ∙ onRow-header (slots room) (rowAhead room) (agedRow (slots room)) (keeps-agedRow (slots room)) ahead ahead-inside currentAt (omega arith)
+      ∙ getD-set-same copy currentAt (rowAhead room) 0
+      (omega (arith, length-before, length-set copy currentAt (rowAhead room), F .long))
 
-  pub advanced-facts : Facts (advanced room)
+  pub advanced-facts : InRange (advanced room)
   advanced-facts =
-      facts-same room (advanced room) F advanced-length (advanced-header 0 (omega arith) (omega arith)) (advanced-header 1 (omega arith) (omega arith))
+      facts-same room (advanced room) F advanced-length (advanced-header depthAt (omega arith) (omega arith)) (advanced-header slotsAt (omega arith) (omega arith))
       (rw advanced-current ahead-lt)
 
   -- the row that became current: a copy of the one before it, aged
   pub advanced-here : rowOf (rowAhead room) (advanced room) ≡ agedRow (slots room) (filled (slots room) (rowOf (current room) room) (rowOf (rowAhead room) room))
   advanced-here =
-      rw (advanced-header 1 (omega arith) (omega arith))
+      rw (advanced-header slotsAt (omega arith) (omega arith))
       (ap (rowIn (slots room) (rowAhead room)) advanced-is
       ∙ onRow-here (slots room) (rowAhead room) (agedRow (slots room)) (keeps-agedRow (slots room)) ahead ahead-inside
       ∙ ap (agedRow (slots room))
-      (header-set-row (slots room) (rowAhead room) 2 (rowAhead room) copy (omega arith)
+      (header-set-row (slots room) (rowAhead room) currentAt (rowAhead room) copy (omega arith)
       ∙ onRow-here (slots room) (rowAhead room) (filled (slots room) (rowOf (current room) room)) keeps-filled room (row-inside room F (rowAhead room) ahead-lt)))
 
   pub advanced-there : (r : ℕ) → r ≢ rowAhead room → rowOf r (advanced room) ≡ rowOf r room
   advanced-there r e =
-      rw (advanced-header 1 (omega arith) (omega arith))
+      rw (advanced-header slotsAt (omega arith) (omega arith))
       (ap (rowIn (slots room) r) advanced-is
       ∙ onRow-there (slots room) (rowAhead room) (agedRow (slots room)) (keeps-agedRow (slots room)) ahead ahead-inside r e
-      ∙ header-set-row (slots room) r 2 (rowAhead room) copy (omega arith)
+      ∙ header-set-row (slots room) r currentAt (rowAhead room) copy (omega arith)
       ∙ onRow-there (slots room) (rowAhead room) (filled (slots room) (rowOf (current room) room)) keeps-filled room (row-inside room F (rowAhead room) ahead-lt) r e)
 
   pub advanced-past : (k : ℕ) → roomSize (depth room) (slots room) ≤ k → drop k (advanced room) ≡ drop k room
@@ -166,48 +169,50 @@ module _ (room : List ℕ) (F : Facts room) where
       let e : rowAt (slots room) (rowAhead room) + rowSize (slots room) ≤ k = omega (arith, row-fits (depth room) (slots room) (rowAhead room) ahead-lt) in
       ap (drop k) advanced-is
       ∙ onRow-past (slots room) (rowAhead room) (agedRow (slots room)) (keeps-agedRow (slots room)) ahead ahead-inside k e
-      ∙ drop-set-lt k copy 2 (rowAhead room) (omega arith)
+      ∙ drop-set-lt k copy currentAt (rowAhead room) (omega arith)
       ∙ onRow-past (slots room) (rowAhead room) (filled (slots room) (rowOf (current room) room)) keeps-filled room (row-inside room F (rowAhead room) ahead-lt) k e
 
 -- ---- a row marked
 module _ (w t : ℕ) (row : List ℕ) where
-  pub markedAt-past : (b : ℕ) → 7 ≤ b → drop b (markedAt w t row) ≡ drop b row
+  pub markedAt-past : (b : ℕ) → spareAt ≤ b → drop b (markedAt w t row) ≡ drop b row
   unfolding markedAt
   markedAt-past b h =
-      put32-drop (put16 (set row 0 1) 1 w) 3 t b (omega arith) ∙ put16-drop (set row 0 1) 1 w b (omega arith) ∙ drop-set-lt b row 0 1 (omega arith)
+      put32-drop (put16 (set row markAt 1) weekAt w) timeAt t b (omega arith) ∙ put16-drop (set row markAt 1) weekAt w b (omega arith) ∙ drop-set-lt b row markAt 1 (omega arith)
 
   pub markedAt-record : (f : Family) (i : ℕ) → recordOf f i (markedAt w t row) ≡ recordOf f i row
   markedAt-record f i = ap (take (size f)) (markedAt-past (recordAt f i) (omega arith))
 
   pub markedAt-spare : spare (markedAt w t row) ≡ spare row
-  markedAt-spare = getD-same-after 7 7 (markedAt w t row) row (markedAt-past 7 (omega arith)) (omega arith)
+  markedAt-spare = getD-same-after spareAt spareAt (markedAt w t row) row (markedAt-past spareAt (omega arith)) (omega arith)
 
-  module _ (long : 8 ≤ length row) where
+  module _ (long : headSize ≤ length row) where
     pub markedAt-mark : mark (markedAt w t row) ≡ 1
     unfolding markedAt
     markedAt-mark =
-        getD-same-before 3 0 (put32 (put16 (set row 0 1) 1 w) 3 t) (put16 (set row 0 1) 1 w) (put32-take (put16 (set row 0 1) 1 w) 3 t 3 (omega arith)) (omega arith)
-        ∙ put16-other (set row 0 1) 1 w 0 (omega arith) (omega arith)
-        ∙ getD-set-same row 0 1 0 (omega arith)
+        let dated : List ℕ = put16 (set row markAt 1) weekAt w in
+        getD-same-before timeAt markAt (put32 dated timeAt t) dated (put32-take dated timeAt t timeAt (omega arith)) (omega arith)
+        ∙ put16-other (set row markAt 1) weekAt w markAt (omega arith) (omega arith)
+        ∙ getD-set-same row markAt 1 0 (omega arith)
 
     pub markedAt-week : week (markedAt w t row) ≡ w
     unfolding markedAt
     markedAt-week =
-        be16-before 3 1 (put32 (put16 (set row 0 1) 1 w) 3 t) (put16 (set row 0 1) 1 w) (put32-take (put16 (set row 0 1) 1 w) 3 t 3 (omega arith)) (omega arith)
-        ∙ be16-put16 (set row 0 1) 1 w (simp length-set (omega arith))
+        let dated : List ℕ = put16 (set row markAt 1) weekAt w in
+        be16-before timeAt weekAt (put32 dated timeAt t) dated (put32-take dated timeAt t timeAt (omega arith)) (omega arith)
+        ∙ be16-put16 (set row markAt 1) weekAt w (simp length-set (omega arith))
 
     pub markedAt-time : time (markedAt w t row) ≡ t
     unfolding markedAt
-    markedAt-time = be32-put32 (put16 (set row 0 1) 1 w) 3 t (simp (length-put16, length-set) (omega arith))
+    markedAt-time = be32-put32 (put16 (set row markAt 1) weekAt w) timeAt t (simp (length-put16, length-set) (omega arith))
 
 -- ---- the current row marked
-module _ (w t : ℕ) (room : List ℕ) (F : Facts room) where
+module _ (w t : ℕ) (room : List ℕ) (F : InRange room) where
   pub currentMarked-length : length (currentMarked w t room) ≡ length room
   unfolding currentMarked
   currentMarked-length =
       onRow-length (slots room) (current room) (markedAt w t) (keeps-markedAt (rowSize (slots room)) w t) room (row-inside room F (current room) (F .inRing))
 
-  pub currentMarked-header : (i : ℕ) → i < 8 → getD (currentMarked w t room) i 0 ≡ getD room i 0
+  pub currentMarked-header : (i : ℕ) → i < headerSize → getD (currentMarked w t room) i 0 ≡ getD room i 0
   unfolding currentMarked
   currentMarked-header i h =
       onRow-header (slots room) (current room) (markedAt w t) (keeps-markedAt (rowSize (slots room)) w t) room (row-inside room F (current room) (F .inRing)) i h
@@ -223,10 +228,10 @@ module _ (w t : ℕ) (room : List ℕ) (F : Facts room) where
       onRow-there (slots room) (current room) (markedAt w t) (keeps-markedAt (rowSize (slots room)) w t) room (row-inside room F (current room) (F .inRing)) r e
 
   pub currentMarked-here : rowOf (current room) (currentMarked w t room) ≡ markedAt w t (rowOf (current room) room)
-  currentMarked-here = rw (currentMarked-header 1 (omega arith)) marked-here
+  currentMarked-here = rw (currentMarked-header slotsAt (omega arith)) marked-here
 
   pub currentMarked-there : (r : ℕ) → r ≢ current room → rowOf r (currentMarked w t room) ≡ rowOf r room
-  currentMarked-there r e = rw (currentMarked-header 1 (omega arith)) (marked-there r e)
+  currentMarked-there r e = rw (currentMarked-header slotsAt (omega arith)) (marked-there r e)
 
   pub currentMarked-past : (k : ℕ) → roomSize (depth room) (slots room) ≤ k → drop k (currentMarked w t room) ≡ drop k room
   unfolding currentMarked
@@ -234,10 +239,10 @@ module _ (w t : ℕ) (room : List ℕ) (F : Facts room) where
       onRow-past (slots room) (current room) (markedAt w t) (keeps-markedAt (rowSize (slots room)) w t) room (row-inside room F (current room) (F .inRing)) k
       (omega (arith, row-fits (depth room) (slots room) (current room) (F .inRing)))
 
-  pub currentMarked-facts : Facts (currentMarked w t room)
+  pub currentMarked-facts : InRange (currentMarked w t room)
   currentMarked-facts =
-      facts-same room (currentMarked w t room) F currentMarked-length (currentMarked-header 0 (omega arith)) (currentMarked-header 1 (omega arith))
-      (rw (currentMarked-header 2 (omega arith)) (F .inRing))
+      facts-same room (currentMarked w t room) F currentMarked-length (currentMarked-header depthAt (omega arith)) (currentMarked-header slotsAt (omega arith))
+      (rw (currentMarked-header currentAt (omega arith)) (F .inRing))
 
 -- ---- the ring settled
 -- the row that is current then, and what it holds before it is marked
@@ -250,8 +255,8 @@ rowTaken w t room =
     (rowOf (current room) room)
 
 -- the ring, advanced or not
-module _ (room : List ℕ) (F : Facts room) where
-  reached-facts : (b : Bool) → Facts (cond b (advanced room) room)
+module _ (room : List ℕ) (F : InRange room) where
+  reached-facts : (b : Bool) → InRange (cond b (advanced room) room)
   reached-facts true = advanced-facts room F
   reached-facts false = F
 
@@ -259,7 +264,7 @@ module _ (room : List ℕ) (F : Facts room) where
   reached-length true = advanced-length room F
   reached-length false = refl
 
-  reached-header : (b : Bool) (i : ℕ) → i < 8 → i ≢ 2 → getD (cond b (advanced room) room) i 0 ≡ getD room i 0
+  reached-header : (b : Bool) (i : ℕ) → i < headerSize → i ≢ currentAt → getD (cond b (advanced room) room) i 0 ≡ getD room i 0
   reached-header true i h e = advanced-header room F i h e
   reached-header false i h e = refl
 
@@ -292,7 +297,7 @@ module _ (room : List ℕ) (F : Facts room) where
   taken-record false f i h = refl
 
   -- the head of that row: the mark, week, time and spare byte that it had itself
-  taken-head : (b : Bool) (k : ℕ) → k < 8
+  taken-head : (b : Bool) (k : ℕ) → k < headSize
       → getD (cond b (agedRow (slots room) (filled (slots room) (rowOf (current room) room) (rowOf (rowAhead room) room))) (rowOf (current room) room)) k 0
       ≡ getD (rowOf (cond b (rowAhead room) (current room)) room) k 0
   taken-head true k h =
@@ -314,7 +319,7 @@ module _ (room : List ℕ) (F : Facts room) where
   settled-lt true = ahead-lt room F
   settled-lt false = F .inRing
 
-module _ (w t : ℕ) (room : List ℕ) (F : Facts room) where
+module _ (w t : ℕ) (room : List ℕ) (F : InRange room) where
   abbrev reached : List ℕ
   reached = cond (moves w t room) (advanced room) room
 
@@ -328,14 +333,14 @@ module _ (w t : ℕ) (room : List ℕ) (F : Facts room) where
       → recordOf f i (rowTaken w t room) ≡ cond (moves w t room) (aged f 1 (recordOf f i (rowOf (current room) room))) (recordOf f i (rowOf (current room) room))
   rowTaken-record f i h = taken-record room F (moves w t room) f i h
 
-  pub rowTaken-head : (k : ℕ) → k < 8 → getD (rowTaken w t room) k 0 ≡ getD (rowOf (rowSettled w t room) room) k 0
+  pub rowTaken-head : (k : ℕ) → k < headSize → getD (rowTaken w t room) k 0 ≡ getD (rowOf (rowSettled w t room) room) k 0
   rowTaken-head k h = taken-head room F (moves w t room) k h
 
   pub settled-length : length (settled w t room) ≡ length room
   unfolding settled
   settled-length = currentMarked-length w t reached (reached-facts room F (moves w t room)) ∙ reached-length room F (moves w t room)
 
-  pub settled-header : (i : ℕ) → i < 8 → i ≢ 2 → getD (settled w t room) i 0 ≡ getD room i 0
+  pub settled-header : (i : ℕ) → i < headerSize → i ≢ currentAt → getD (settled w t room) i 0 ≡ getD room i 0
   unfolding settled
   settled-header i h e =
       currentMarked-header w t reached (reached-facts room F (moves w t room)) i h ∙ reached-header room F (moves w t room) i h e
@@ -343,9 +348,9 @@ module _ (w t : ℕ) (room : List ℕ) (F : Facts room) where
   pub settled-current : current (settled w t room) ≡ rowSettled w t room
   unfolding settled
   settled-current =
-      currentMarked-header w t reached (reached-facts room F (moves w t room)) 2 (omega arith) ∙ reached-current room F (moves w t room)
+      currentMarked-header w t reached (reached-facts room F (moves w t room)) currentAt (omega arith) ∙ reached-current room F (moves w t room)
 
-  pub settled-facts : Facts (settled w t room)
+  pub settled-facts : InRange (settled w t room)
   unfolding settled
   settled-facts = currentMarked-facts w t reached (reached-facts room F (moves w t room))
 
@@ -367,7 +372,7 @@ module _ (w t : ℕ) (room : List ℕ) (F : Facts room) where
   unfolding settled
   settled-past k h =
       currentMarked-past w t reached (reached-facts room F (moves w t room)) k
-      (rw (reached-header room F (moves w t room) 0 (omega arith) (omega arith), reached-header room F (moves w t room) 1 (omega arith) (omega arith)) h)
+      (rw (reached-header room F (moves w t room) depthAt (omega arith) (omega arith), reached-header room F (moves w t room) slotsAt (omega arith) (omega arith)) h)
       ∙ reached-past room F (moves w t room) k h
 
 -- ---- a word in a row
@@ -393,7 +398,7 @@ abbrev pub fedIf : Family → ℕ → ℕ → List ℕ → ℕ → ℕ → List 
 fedIf f sat band word c i row = cond (eqb i c) (fedRecord f sat band word (recordOf f i row)) (recordOf f i row)
 
 module _ (f : Family) (n sat band : ℕ) (word row : List ℕ) (one : 1 ≤ n) (l : length row ≡ rowSize n) where
-  pub fedFamily-head : (k : ℕ) → k < 8 → getD (fedFamily f n sat band word row) k 0 ≡ getD row k 0
+  pub fedFamily-head : (k : ℕ) → k < headSize → getD (fedFamily f n sat band word row) k 0 ≡ getD row k 0
   unfolding fedFamily
   fedFamily-head k h =
       onRecord-head f n (chosen f sat n row) (fedRecord f sat band word) (keeps-fedRecord f sat band word) row l (chosen-lt f sat n row one) k h
@@ -425,7 +430,7 @@ module _ (n sat band : ℕ) (word row : List ℕ) (one : 1 ≤ n) (l : length ro
   half-length : length half ≡ rowSize n
   half-length = keeps-fedFamily CED n sat band word one row l
 
-  pub fedRow-head : (k : ℕ) → k < 8 → getD (fedRow n sat band word row) k 0 ≡ getD row k 0
+  pub fedRow-head : (k : ℕ) → k < headSize → getD (fedRow n sat band word row) k 0 ≡ getD row k 0
   unfolding fedRow
   fedRow-head k h = fedFamily-head Timing n sat band word half one half-length k h ∙ fedFamily-head CED n sat band word row one l k h
 
@@ -441,52 +446,52 @@ module _ (n sat band : ℕ) (word row : List ℕ) (one : 1 ≤ n) (l : length ro
       )
 
 -- ---- a word in a room
-module _ (w t sat band : ℕ) (word room : List ℕ) (F : Facts room) where
+module _ (w t sat band : ℕ) (word room : List ℕ) (F : InRange room) where
   keeps-fed : Keeps (fedRow (slots (settled w t room)) sat band word) (rowSize (slots (settled w t room)))
-  keeps-fed = keeps-fedRow (slots (settled w t room)) sat band word (settled-facts w t room F .slots1)
+  keeps-fed = keeps-fedRow (slots (settled w t room)) sat band word (settled-facts w t room F .someSlot)
 
   fed-inside : rowAt (slots (settled w t room)) (current (settled w t room)) + rowSize (slots (settled w t room)) ≤ length (settled w t room)
   fed-inside = row-inside (settled w t room) (settled-facts w t room F) (current (settled w t room)) (settled-facts w t room F .inRing)
 
   pub fed-length : length (fed w t sat band word room) ≡ length room
-  unfolding fed
+  unfolding fed fedCurrent
   fed-length =
       onRow-length (slots (settled w t room)) (current (settled w t room)) (fedRow (slots (settled w t room)) sat band word) keeps-fed (settled w t room) fed-inside
       ∙ settled-length w t room F
 
-  fed-header-settled : (i : ℕ) → i < 8 → getD (fed w t sat band word room) i 0 ≡ getD (settled w t room) i 0
-  unfolding fed
+  fed-header-settled : (i : ℕ) → i < headerSize → getD (fed w t sat band word room) i 0 ≡ getD (settled w t room) i 0
+  unfolding fed fedCurrent
   fed-header-settled i h =
       onRow-header (slots (settled w t room)) (current (settled w t room)) (fedRow (slots (settled w t room)) sat band word) keeps-fed (settled w t room) fed-inside i h
 
-  pub fed-header : (i : ℕ) → i < 8 → i ≢ 2 → getD (fed w t sat band word room) i 0 ≡ getD room i 0
+  pub fed-header : (i : ℕ) → i < headerSize → i ≢ currentAt → getD (fed w t sat band word room) i 0 ≡ getD room i 0
   fed-header i h e = fed-header-settled i h ∙ settled-header w t room F i h e
 
   pub fed-current : current (fed w t sat band word room) ≡ rowSettled w t room
-  fed-current = fed-header-settled 2 (omega arith) ∙ settled-current w t room F
+  fed-current = fed-header-settled currentAt (omega arith) ∙ settled-current w t room F
 
-  pub fed-facts : Facts (fed w t sat band word room)
+  pub fed-facts : InRange (fed w t sat band word room)
   fed-facts =
-      facts-same room (fed w t sat band word room) F fed-length (fed-header 0 (omega arith) (omega arith)) (fed-header 1 (omega arith) (omega arith))
+      facts-same room (fed w t sat band word room) F fed-length (fed-header depthAt (omega arith) (omega arith)) (fed-header slotsAt (omega arith) (omega arith))
       (rw fed-current (rowSettled-lt w t room F))
 
   fed-row-here : rowIn (slots (settled w t room)) (current (settled w t room)) (fed w t sat band word room)
       ≡ fedRow (slots (settled w t room)) sat band word (rowOf (current (settled w t room)) (settled w t room))
-  unfolding fed
+  unfolding fed fedCurrent
   fed-row-here =
       onRow-here (slots (settled w t room)) (current (settled w t room)) (fedRow (slots (settled w t room)) sat band word) keeps-fed (settled w t room) fed-inside
 
   fed-row-there : (r : ℕ) → r ≢ current (settled w t room) → rowIn (slots (settled w t room)) r (fed w t sat band word room) ≡ rowOf r (settled w t room)
-  unfolding fed
+  unfolding fed fedCurrent
   fed-row-there r e =
       onRow-there (slots (settled w t room)) (current (settled w t room)) (fedRow (slots (settled w t room)) sat band word) keeps-fed (settled w t room) fed-inside r e
 
   pub fed-here : rowOf (rowSettled w t room) (fed w t sat band word room) ≡ fedRow (slots room) sat band word (markedAt w t (rowTaken w t room))
   fed-here =
-      rw (fed-header-settled 1 (omega arith))
+      rw (fed-header-settled slotsAt (omega arith))
       (ap (λ (c : ℕ). rowIn (slots (settled w t room)) c (fed w t sat band word room)) (sym (settled-current w t room F))
       ∙ fed-row-here
-      ∙ ap (λ (n : ℕ). fedRow n sat band word (rowOf (current (settled w t room)) (settled w t room))) (settled-header w t room F 1 (omega arith) (omega arith))
+      ∙ ap (λ (n : ℕ). fedRow n sat band word (rowOf (current (settled w t room)) (settled w t room))) (settled-header w t room F slotsAt (omega arith) (omega arith))
       ∙ ap (λ (c : ℕ). fedRow (slots room) sat band word (rowOf c (settled w t room))) (settled-current w t room F)
       ∙ ap (fedRow (slots room) sat band word) (settled-here w t room F))
 
@@ -496,7 +501,7 @@ module _ (w t sat band : ℕ) (word room : List ℕ) (F : Facts room) where
       ≡ fedIf f sat band word (chosen f sat (slots room) (rowTaken w t room)) i (rowTaken w t room)
   fed-record f i h =
       ap (recordOf f i) fed-here
-      ∙ fedRow-record (slots room) sat band word (markedAt w t (rowTaken w t room)) (F .slots1)
+      ∙ fedRow-record (slots room) sat band word (markedAt w t (rowTaken w t room)) (F .someSlot)
       (keeps-markedAt (rowSize (slots room)) w t (rowTaken w t room) (rowTaken-length w t room F)) f i h
       ∙ rw (
         chosen-same f sat (slots room) (markedAt w t (rowTaken w t room)) (rowTaken w t room) (λ j g. markedAt-record w t (rowTaken w t room) f j),
@@ -505,18 +510,18 @@ module _ (w t sat band : ℕ) (word room : List ℕ) (F : Facts room) where
 
   pub fed-there : (r : ℕ) → r ≢ rowSettled w t room → rowOf r (fed w t sat band word room) ≡ rowOf r room
   fed-there r e =
-      rw (fed-header-settled 1 (omega arith))
+      rw (fed-header-settled slotsAt (omega arith))
       (fed-row-there r (λ q. e (q ∙ settled-current w t room F)) ∙ settled-there w t room F r e)
 
   past-settled : (k : ℕ) → rowAt (slots (settled w t room)) (current (settled w t room)) + rowSize (slots (settled w t room)) ≤ k
       → drop k (fed w t sat band word room) ≡ drop k (settled w t room)
-  unfolding fed
+  unfolding fed fedCurrent
   past-settled k h =
       onRow-past (slots (settled w t room)) (current (settled w t room)) (fedRow (slots (settled w t room)) sat band word) keeps-fed (settled w t room) fed-inside k h
 
   pub fed-past : (k : ℕ) → roomSize (depth room) (slots room) ≤ k → drop k (fed w t sat band word room) ≡ drop k room
   fed-past k h =
       past-settled k
-      (rw (settled-current w t room F, settled-header w t room F 1 (omega arith) (omega arith))
+      (rw (settled-current w t room F, settled-header w t room F slotsAt (omega arith) (omega arith))
       (omega (arith, row-fits (depth room) (slots room) (rowSettled w t room) (rowSettled-lt w t room F))))
       ∙ settled-past w t room F k h

@@ -7,6 +7,7 @@ use lib.Dec.{leb, eqb}
 use Rattle.paper.specs.Number.{Answer, number, values, answer, unless}
 use Rattle.paper.specs.Time.{isTime, isStart, startOf}
 use Rattle.paper.specs.Satellite.{isSatellite}
+use Rattle.paper.specs.Word.{wordBytes}
 use Rattle.paper.specs.Record.{Family, count, dataOf}
 use Rattle.paper.specs.Room.{roomSize}
 use Rattle.paper.specs.Store.{sizesAllowed, isStore}
@@ -38,7 +39,7 @@ freshRoom d n room = roomFor (freshNumber d n room) (fresh d n room) room
 unfoldable pub feedNumber : List ℕ → ℕ → ℕ → ℕ → List ℕ → ℕ
 feedNumber word sat t band room =
     unless (isStore room) 3
-    (unless (isSatellite sat) 4 (unless (isTime t) 5 (unless (eqb (length word) 16) 8 (unless (leb band 1) 9 0))))
+    (unless (isSatellite sat) 4 (unless (isTime t) 5 (unless (eqb (length word) wordBytes) 8 (unless (leb band 1) 9 0))))
 
 abbrev pub feedAnswer : List ℕ → ℕ → ℕ → ℕ → List ℕ → Answer
 feedAnswer word sat t band room = answer (feedNumber word sat t band room) []
@@ -48,24 +49,29 @@ unfoldable pub feedRoom : List ℕ → ℕ → ℕ → ℕ → ℕ → List ℕ 
 feedRoom word sat w t band room =
     roomFor (feedNumber word sat t band room) (fed w (startOf t) sat band word room) room
 
--- "Tag 3, 4, 5, 6, 8, 9, 7, 16, 10", and what comes later
+-- "Tag 3, 4, 5, 6", and what comes later
+abbrev pub untilStart : ℕ → ℕ → List ℕ → ℕ → ℕ
+untilStart sat t room later =
+    unless (isStore room) 3 (unless (isSatellite sat) 4 (unless (isTime t) 5 (unless (isStart t) 6 later)))
+
+-- "8, 9, 7, 16, 10", and what comes later
 unfoldable pub untilCandidate : Bool → Bool → ℕ → ℕ → ℕ → ℕ → ℕ → List ℕ → ℕ → ℕ
 untilCandidate allowed known sat kind cop w t room later =
-    unless (isStore room) 3
-    (unless (isSatellite sat) 4
-    (unless (isTime t) 5
-    (unless (isStart t) 6
+    untilStart sat t room
     (unless allowed 8
     (unless known 9
     (unless (eqb (number (thirtyBefore w t)) 0) 7
-    (unless (not (eqb cop 0)) 16 (unless (hasCandidate (familyOf kind) sat cop w t room) 10 later))))))))
+    (unless (not (eqb cop 0)) 16 (unless (hasCandidate (familyOf kind) sat cop w t room) 10 later)))))
 
--- "11, 17, 18, 0"
+-- "11, 17, 18, 0", of the candidate's record
+abbrev pub fromCandidate : Family → List ℕ → List ℕ → Bool → ℕ → ℕ
+fromCandidate f given rec verdict status =
+    unless (givenAgrees f given rec) 11 (unless verdict 17 (unless (statusAdds status) 18 0))
+
 unfoldable pub tagNumber : ℕ → ℕ → ℕ → ℕ → ℕ → ℕ → ℕ → List ℕ → Bool → List ℕ → ℕ
 tagNumber sat kind cop l status w t given verdict room =
     untilCandidate (copAllowed cop && lengthAllowed l) (kindKnown kind && statusKnown status) sat kind cop w t room
-    (unless (givenAgrees (familyOf kind) given (candidateRecord (familyOf kind) sat w t room)) 11
-    (unless verdict 17 (unless (statusAdds status) 18 0)))
+    (fromCandidate (familyOf kind) given (candidateRecord (familyOf kind) sat w t room) verdict status)
 
 -- "0 done; for a tag, with how many records took it"
 unfoldable pub tagAnswer : ℕ → ℕ → ℕ → ℕ → ℕ → ℕ → ℕ → List ℕ → Bool → List ℕ → Answer

@@ -9,6 +9,10 @@ use lib.Dec.{eqb}
 abbrev pub weightOf : ℕ → ℕ
 weightOf i = 2 ^ (7 - i % 8)
 
+-- a number with the k bits from weight 2 ^ s on made v, which is below 2 ^ k
+abbrev pub spliced : ℕ → ℕ → ℕ → ℕ → ℕ
+spliced s k b v = b / 2 ^ (k + s) * 2 ^ (k + s) + (v * 2 ^ s + b % 2 ^ s)
+
 -- bit i
 abbrev pub bitAt : List ℕ → ℕ → ℕ
 bitAt s i = getD s (i / 8) 0 / weightOf i % 2

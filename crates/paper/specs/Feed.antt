@@ -7,7 +7,7 @@ use lib.Dec.{leb, ltb, eqb}
 use Rattle.paper.specs.Big.{put16, put32}
 use Rattle.paper.specs.Parts.{part, onPart}
 use Rattle.paper.specs.Record.{Family, CED, Timing, size, satellite, agesOf, aged, greatest}
-use Rattle.paper.specs.Room.{slotSize, rowSize, depth, slots, current, rowAt, rowOf, marked, isAt, recordAt, recordOf, eachRecord}
+use Rattle.paper.specs.Room.{currentAt, markAt, weekAt, timeAt, headSize, slotSize, rowSize, depth, slots, current, rowAt, rowOf, marked, isAt, recordAt, recordOf, eachRecord}
 use Rattle.paper.specs.Word.{fedRecord}
 
 -- "the next row (after the last comes row 0)"
@@ -21,8 +21,8 @@ moves w t room = let row = rowOf (current room) room in marked row && not (isAt 
 -- "takes a copy of all records": those of the row at `from` in the row at `to`
 unfoldable pub copied : ℕ → ℕ → ℕ → List ℕ → List ℕ
 copied n from to room =
-    let records = part (from + 8) (n * slotSize) room in
-    onPart (λ (_ : List ℕ). records) (to + 8) (n * slotSize) room
+    let records = part (from + headSize) (n * slotSize) room in
+    onPart (λ (_ : List ℕ). records) (to + headSize) (n * slotSize) room
 
 -- "all its ages rise by one, held at 255"
 unfoldable pub agedRow : ℕ → List ℕ → List ℕ
@@ -34,11 +34,11 @@ advanced room =
     let n = slots room in
     let to = nextRow (depth room) (current room) in
     let c = copied n (rowAt n (current room)) (rowAt n to) room in
-    onPart (agedRow n) (rowAt n to) (rowSize n) (set c 2 to)
+    onPart (agedRow n) (rowAt n to) (rowSize n) (set c currentAt to)
 
 -- "marked T"
 unfoldable pub markedAt : ℕ → ℕ → List ℕ → List ℕ
-markedAt w t row = let m = put16 (set row 0 1) 1 w in put32 m 3 t
+markedAt w t row = let m = put16 (set row markAt 1) weekAt w in put32 m timeAt t
 
 -- "The current row is then marked T"
 unfoldable pub currentMarked : ℕ → ℕ → List ℕ → List ℕ
@@ -72,9 +72,12 @@ fedRow n sat band word row =
     let c = fedFamily CED n sat band word row in
     fedFamily Timing n sat band word c
 
+-- the room with the word in its current row
+unfoldable pub fedCurrent : ℕ → ℕ → List ℕ → List ℕ → List ℕ
+fedCurrent sat band word room =
+    let n = slots room in
+    onPart (fedRow n sat band word) (rowAt n (current room)) (rowSize n) room
+
 -- the room after a word of subframe w, t
 unfoldable pub fed : ℕ → ℕ → ℕ → ℕ → List ℕ → List ℕ → List ℕ
-fed w t sat band word room =
-    let s = settled w t room in
-    let n = slots s in
-    onPart (fedRow n sat band word) (rowAt n (current s)) (rowSize n) s
+fed w t sat band word room = let s = settled w t room in fedCurrent sat band word s

@@ -1,14 +1,14 @@
 -- "Fresh room": all rows blank, row 0 current, data zero, ages 255, no satellites, counts 0.
-use Prim.Native.Nat.{ℕ}
+use Prim.Native.Nat.{ℕ, _-_}
 use mathlib.Core.List.{List, _∷_, _++_}
 use lib.ListN.{replicate}
 use Rattle.paper.specs.Parts.{onPart, onParts}
 use Rattle.paper.specs.Record.{CED, Timing, blankRecord}
-use Rattle.paper.specs.Room.{slotSize, rowSize}
+use Rattle.paper.specs.Room.{currentAt, headerSize, headSize, slotSize, rowSize}
 
 -- "D, N, current row, five zeros"
 abbrev pub header : ℕ → ℕ → List ℕ
-header d n = d ∷ n ∷ replicate 6 0
+header d n = d ∷ n ∷ replicate (headerSize - currentAt) 0
 
 unfoldable pub blankSlot : List ℕ
 blankSlot = blankRecord CED ++ blankRecord Timing
@@ -16,11 +16,11 @@ blankSlot = blankRecord CED ++ blankRecord Timing
 -- a blank row: mark, week, time and spare 0, and N blank slots
 unfoldable pub blankRow : ℕ → List ℕ → List ℕ
 blankRow n row =
-    let h = onPart (λ (_ : List ℕ). replicate 8 0) 0 8 row in
-    onParts (λ (_ : List ℕ). blankSlot) slotSize n 8 h
+    let h = onPart (λ (_ : List ℕ). replicate headSize 0) 0 headSize row in
+    onParts (λ (_ : List ℕ). blankSlot) slotSize n headSize h
 
 -- the room with a fresh store of D rows and N slots at its start
 unfoldable pub fresh : ℕ → ℕ → List ℕ → List ℕ
 fresh d n room =
-    let h = onPart (λ (_ : List ℕ). header d n) 0 8 room in
-    onParts (blankRow n) (rowSize n) d 8 h
+    let h = onPart (λ (_ : List ℕ). header d n) 0 headerSize room in
+    onParts (blankRow n) (rowSize n) d headerSize h

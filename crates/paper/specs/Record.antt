@@ -1,8 +1,8 @@
 -- "Records": the two kinds, their sizes, and the parts of a record.
-use Prim.Native.Nat.{ℕ, _+_, _-_, _/_, min, max}
-use mathlib.Core.Bool.{Bool, true, false, cond, _&&_}
+use Prim.Native.Nat.{ℕ, _+_, _-_, _/_, _^_, min, max}
+use mathlib.Core.Bool.{Bool, true, false, _&&_}
 use mathlib.Core.List.{List, [], _∷_, _++_, map}
-use lib.ListN.{getD, take, drop, replicate}
+use lib.ListN.{getD, take, replicate}
 use lib.Dec.{eqb}
 use Rattle.paper.specs.Parts.{part, onPart}
 use Rattle.paper.specs.Big.{be16, put16}
@@ -16,6 +16,12 @@ pub data Family : Type 0 where
 abbrev pub familyIf : Bool → Family
 familyIf true = Timing
 familyIf false = CED
+
+abbrev pub sameFamily : Family → Family → Bool
+sameFamily CED CED = true
+sameFamily CED Timing = false
+sameFamily Timing CED = false
+sameFamily Timing Timing = true
 
 -- "549 bits", "141 bits"
 abbrev pub recordBits : Family → ℕ
@@ -32,35 +38,56 @@ abbrev pub ages : Family → ℕ
 ages CED = 5
 ages Timing = 2
 
--- the bytes of a record: its satellite 1, its count 2, its ages, its data
-abbrev pub size : Family → ℕ
-size CED = 77
-size Timing = 23
+-- where each field of a record starts: behind the one before it. Its satellite is one byte
+abbrev pub satelliteAt : ℕ
+satelliteAt = 0
 
--- where the data starts in a record
+-- its count is "two bytes"
+abbrev pub countAt : ℕ
+countAt = satelliteAt + 1
+
+-- its ages are a byte each
+abbrev pub agesAt : ℕ
+agesAt = countAt + 2
+
+-- its data comes last
 abbrev pub dataAt : Family → ℕ
-dataAt CED = 8
-dataAt Timing = 5
+dataAt f = agesAt + ages f
+
+-- the bytes of a record
+abbrev pub size : Family → ℕ
+size f = dataAt f + dataBytes f
 
 -- "A record also has a satellite or none": 0 is none
 abbrev pub satellite : List ℕ → ℕ
-satellite rec = getD rec 0 0
+satellite rec = getD rec satelliteAt 0
 
 -- "a count 0 to 65535 in two bytes"
 abbrev pub count : List ℕ → ℕ
-count rec = be16 rec 1
+count rec = be16 rec countAt
+
+abbrev pub mostCount : ℕ
+mostCount = 65535
 
 -- the ages of a record
 abbrev pub agesOf : Family → List ℕ → List ℕ
-agesOf f rec = part 3 (ages f) rec
+agesOf f rec = part agesAt (ages f) rec
 
 -- the data of a record
 abbrev pub dataOf : Family → List ℕ → List ℕ
 dataOf f rec = part (dataAt f) (dataBytes f) rec
 
--- data without "the three bits past the end": its whole bytes, and the top five bits of the last
+-- "The three bits past the end"
+abbrev pub bitsPast : ℕ
+bitsPast = 3
+
+-- what the lowest bit of the last byte that is data weighs there
+abbrev pub lastWeight : ℕ
+lastWeight = 2 ^ bitsPast
+
+-- data without those three bits: its whole bytes, and the top five bits of the last
 abbrev pub inBits : Family → List ℕ → List ℕ
-inBits f d = take (dataBytes f - 1) d ++ (getD d (dataBytes f - 1) 0 / 8 ∷ [])
+inBits f d = take (dataBytes f - 1) d ++ (getD d (dataBytes f - 1) 0 / lastWeight ∷ [])
 
 -- two lists of numbers are the same
 unfoldable pub sameList : List ℕ → List ℕ → Bool
@@ -75,15 +102,27 @@ sameBits f a b = sameList (inBits f a) (inBits f b)
 
 -- a record with another count
 abbrev pub withCount : ℕ → List ℕ → List ℕ
-withCount c rec = put16 rec 1 c
+withCount c rec = put16 rec countAt c
+
+-- a record with other ages
+abbrev pub withAges : Family → List ℕ → List ℕ → List ℕ
+withAges f new rec = onPart (λ (_ : List ℕ). new) agesAt (ages f) rec
+
+-- the greatest age there is: as old as that, or never there
+abbrev pub oldest : ℕ
+oldest = 255
+
+-- "ages 255"
+abbrev pub neverThere : Family → List ℕ → List ℕ
+neverThere f rec = withAges f (replicate (ages f) oldest) rec
 
 -- an age so much more, "held at 255"
 abbrev pub older : ℕ → ℕ → ℕ
-older by a = min 255 (a + by)
+older by a = min oldest (a + by)
 
 -- "all its ages rise by one": a record whose ages are so much more
 unfoldable pub aged : Family → ℕ → List ℕ → List ℕ
-aged f by rec = onPart (map (older by)) 3 (ages f) rec
+aged f by rec = onPart (map (older by)) agesAt (ages f) rec
 
 -- "its greatest age"
 unfoldable pub greatest : List ℕ → ℕ
@@ -92,9 +131,9 @@ greatest (a ∷ l) = max a (greatest l)
 
 -- "its least age"
 unfoldable pub least : List ℕ → ℕ
-least [] = 255
+least [] = oldest
 least (a ∷ l) = min a (least l)
 
 -- "data zero, ages 255, no satellites, counts 0"
 unfoldable pub blankRecord : Family → List ℕ
-blankRecord f = 0 ∷ 0 ∷ 0 ∷ (replicate (ages f) 255 ++ replicate (dataBytes f) 0)
+blankRecord f = neverThere f (replicate (size f) 0)

@@ -16,53 +16,90 @@ mostRows = 16
 abbrev pub mostSlots : ℕ
 mostSlots = 36
 
--- a slot: one CED record and behind it one timing record
-abbrev pub slotSize : ℕ
-slotSize = 100
+-- "Header: D, N, current row, five zeros": where each starts, behind the one before it
+abbrev pub depthAt : ℕ
+depthAt = 0
 
--- where a record starts in its slot
+abbrev pub slotsAt : ℕ
+slotsAt = depthAt + 1
+
+abbrev pub currentAt : ℕ
+currentAt = slotsAt + 1
+
+abbrev pub zerosAt : ℕ
+zerosAt = currentAt + 1
+
+-- the bytes of the header
+abbrev pub headerSize : ℕ
+headerSize = zerosAt + 5
+
+-- "A row starts with its mark, week 2, time 4 and a spare zero": where each starts in the row
+abbrev pub markAt : ℕ
+markAt = 0
+
+abbrev pub weekAt : ℕ
+weekAt = markAt + 1
+
+abbrev pub timeAt : ℕ
+timeAt = weekAt + 2
+
+abbrev pub spareAt : ℕ
+spareAt = timeAt + 4
+
+-- the bytes of a row before its slots
+abbrev pub headSize : ℕ
+headSize = spareAt + 1
+
+-- a slot is one CED record and behind it one timing record: where a record starts in its slot
 abbrev pub base : Family → ℕ
 base CED = 0
-base Timing = 77
+base Timing = size CED
+
+abbrev pub slotSize : ℕ
+slotSize = base Timing + size Timing
+
+-- where slot i starts in its row
+abbrev pub slotAt : ℕ → ℕ
+slotAt i = headSize + i * slotSize
 
 -- "8 + 100 × N": a row
 abbrev pub rowSize : ℕ → ℕ
-rowSize n = 8 + n * slotSize
+rowSize n = headSize + n * slotSize
 
 -- "8 + D × (8 + 100 × N) bytes": the formula's length
 abbrev pub roomSize : ℕ → ℕ → ℕ
-roomSize d n = 8 + d * rowSize n
+roomSize d n = headerSize + d * rowSize n
 
--- "Header: D, N, current row, five zeros"
+-- D, N and the current row
 abbrev pub depth : List ℕ → ℕ
-depth room = getD room 0 0
+depth room = getD room depthAt 0
 
 abbrev pub slots : List ℕ → ℕ
-slots room = getD room 1 0
+slots room = getD room slotsAt 0
 
 abbrev pub current : List ℕ → ℕ
-current room = getD room 2 0
+current room = getD room currentAt 0
 
 -- where row r starts
 abbrev pub rowAt : ℕ → ℕ → ℕ
-rowAt n r = 8 + r * rowSize n
+rowAt n r = headerSize + r * rowSize n
 
 -- the bytes of row r
 abbrev pub rowOf : ℕ → List ℕ → List ℕ
 rowOf r room = part (rowAt (slots room) r) (rowSize (slots room)) room
 
--- "A row starts with its mark (0 blank, 1 marked), week 2, time 4 and a spare zero"
+-- "its mark (0 blank, 1 marked)"
 abbrev pub mark : List ℕ → ℕ
-mark row = getD row 0 0
+mark row = getD row markAt 0
 
 abbrev pub week : List ℕ → ℕ
-week row = be16 row 1
+week row = be16 row weekAt
 
 abbrev pub time : List ℕ → ℕ
-time row = be32 row 3
+time row = be32 row timeAt
 
 abbrev pub spare : List ℕ → ℕ
-spare row = getD row 7 0
+spare row = getD row spareAt 0
 
 abbrev pub marked : List ℕ → Bool
 marked row = eqb (mark row) 1
@@ -73,7 +110,7 @@ isAt w t row = eqb (week row) w && eqb (time row) t
 
 -- where the record of slot i starts in its row
 abbrev pub recordAt : Family → ℕ → ℕ
-recordAt f i = 8 + i * slotSize + base f
+recordAt f i = slotAt i + base f
 
 -- the bytes of the record of slot i of a row
 abbrev pub recordOf : Family → ℕ → List ℕ → List ℕ
@@ -85,16 +122,16 @@ inSlot f g slot = onPart g (base f) (size f) slot
 
 -- g done to all records of a family in a row
 unfoldable pub eachRecord : Family → ℕ → (List ℕ → List ℕ) → List ℕ → List ℕ
-eachRecord f n g row = onParts (inSlot f g) slotSize n 8 row
+eachRecord f n g row = onParts (inSlot f g) slotSize n headSize row
 
 -- g done to all records of a family in any row
 unfoldable pub everyRecord : Family → (List ℕ → List ℕ) → List ℕ → List ℕ
-everyRecord f g room = onParts (eachRecord f (slots room) g) (rowSize (slots room)) (depth room) 8 room
+everyRecord f g room = onParts (eachRecord f (slots room) g) (rowSize (slots room)) (depth room) headerSize room
 
 -- how many records of a family in a row have p
 unfoldable pub howMany : Family → ℕ → (List ℕ → Bool) → List ℕ → ℕ
-howMany f n p row = sumParts (λ (slot : List ℕ). cond (p (part (base f) (size f) slot)) 1 0) slotSize n 8 row
+howMany f n p row = sumParts (λ (slot : List ℕ). cond (p (part (base f) (size f) slot)) 1 0) slotSize n headSize row
 
 -- how many records of a family in any row have p
 unfoldable pub howManyIn : Family → (List ℕ → Bool) → List ℕ → ℕ
-howManyIn f p room = sumParts (howMany f (slots room) p) (rowSize (slots room)) (depth room) 8 room
+howManyIn f p room = sumParts (howMany f (slots room) p) (rowSize (slots room)) (depth room) headerSize room

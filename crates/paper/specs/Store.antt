@@ -1,14 +1,15 @@
 -- Refusal 3, "not a store": the test that a room is one, clause by clause.
-use Prim.Native.Nat.{ℕ, _+_, _-_, _%_}
+use Prim.Native.Nat.{ℕ, _+_, _-_, _%_, _<_, _≤_}
 use mathlib.Core.Bool.{Bool, cond, not, _&&_, _||_}
 use mathlib.Core.List.{List}
 use lib.ListN.{getD, length}
 use lib.Dec.{leb, ltb, eqb}
 use Rattle.paper.specs.Big.{be32}
 use Rattle.paper.specs.Parts.{part, allParts}
-use Rattle.paper.specs.Record.{Family, CED, Timing, size, satellite, count}
-use Rattle.paper.specs.Room.{mostRows, mostSlots, slotSize, base, rowSize, roomSize, depth, slots, current, mark, week, time, spare}
+use Rattle.paper.specs.Record.{Family, CED, Timing, size, satellite, count, lastWeight}
+use Rattle.paper.specs.Room.{mostRows, mostSlots, zerosAt, headerSize, headSize, slotSize, base, rowSize, roomSize, depth, slots, current, mark, week, time, spare}
 use Rattle.paper.specs.Satellite.{mostSatellites}
+use Rattle.paper.specs.Time.{lastStart, isStart}
 
 -- "D or N outside its range": the test that neither is
 abbrev pub sizesAllowed : ℕ → ℕ → Bool
@@ -18,9 +19,19 @@ sizesAllowed d n = leb 1 d && leb d mostRows && leb 1 n && leb n mostSlots
 unfoldable pub headerInRange : List ℕ → Bool
 headerInRange room = sizesAllowed (depth room) (slots room) && ltb (current room) (depth room)
 
+-- what every call goes by: D, N and the current row in range, and the room no "shorter than the formula"
+pub record InRange (room : List ℕ) : Type 0 where
+  pub long : headerSize ≤ length room
+  pub someRow : 1 ≤ depth room
+  pub rowsWithin : depth room ≤ mostRows
+  pub someSlot : 1 ≤ slots room
+  pub slotsWithin : slots room ≤ mostSlots
+  pub inRing : current room < depth room
+  pub fits : roomSize (depth room) (slots room) ≤ length room
+
 -- "a header zero .. not zero", none of the five
 unfoldable pub headerZeros : List ℕ → Bool
-headerZeros room = eqb (getD room 3 0) 0 && eqb (be32 room 4) 0
+headerZeros room = eqb (getD room zerosAt 0) 0 && eqb (be32 room (zerosAt + 1)) 0
 
 -- "a satellite above 36"; in a blank row any satellite is one too many
 unfoldable pub satelliteAllowed : ℕ → List ℕ → Bool
@@ -32,7 +43,7 @@ countHasSatellite rec = not (eqb (satellite rec) 0) || eqb (count rec) 0
 
 -- "a bit set past a record's 549 or 141": the last three bits of its last byte
 unfoldable pub noBitPast : Family → List ℕ → Bool
-noBitPast f rec = eqb (getD rec (size f - 1) 0 % 8) 0
+noBitPast f rec = eqb (getD rec (size f - 1) 0 % lastWeight) 0
 
 unfoldable pub recordAllowed : Family → ℕ → List ℕ → Bool
 recordAllowed f most rec = satelliteAllowed most rec && countHasSatellite rec && noBitPast f rec
@@ -49,7 +60,7 @@ markAllowed row = leb (mark row) 1 && eqb (spare row) 0
 
 -- "a marked row whose time is not a multiple of 30 up to 604770"
 unfoldable pub subframeAllowed : List ℕ → Bool
-subframeAllowed row = leb (time row) 604770 && eqb (time row % 30) 0
+subframeAllowed row = leb (time row) lastStart && isStart (time row)
 
 -- "a blank row with a week, time .. not zero"
 unfoldable pub blankAllowed : List ℕ → Bool
@@ -63,13 +74,13 @@ unfoldable pub rowAllowed : ℕ → List ℕ → Bool
 rowAllowed n row =
     markAllowed row
     && cond (eqb (mark row) 0) (blankAllowed row) (subframeAllowed row)
-    && allParts (slotAllowed (mostIn row)) slotSize n 8 row
+    && allParts (slotAllowed (mostIn row)) slotSize n headSize row
 
 -- a room is a store: it has a header, "room shorter than the formula" does not hold, and every row is allowed
 unfoldable pub isStore : List ℕ → Bool
 isStore room =
-    leb 8 (length room)
+    leb headerSize (length room)
     && headerInRange room
     && headerZeros room
     && leb (roomSize (depth room) (slots room)) (length room)
-    && allParts (rowAllowed (slots room)) (rowSize (slots room)) (depth room) 8 room
+    && allParts (rowAllowed (slots room)) (rowSize (slots room)) (depth room) headerSize room

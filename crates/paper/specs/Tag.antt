@@ -4,20 +4,29 @@ use mathlib.Core.Bool.{Bool, cond, _&&_, _||_}
 use mathlib.Core.List.{List}
 use lib.ListN.{getD, length}
 use lib.Dec.{leb, ltb, eqb}
-use lib.IntN.{negsuc}
+use lib.IntN.{pos, negℤ}
 use Rattle.paper.specs.Number.{Answer, values}
 use Rattle.paper.specs.Parts.{first}
-use Rattle.paper.specs.Record.{Family, familyIf, dataBytes, satellite, count, agesOf, dataOf, sameBits, withCount, older, greatest}
+use Rattle.paper.specs.Record.{Family, familyIf, dataBytes, satellite, count, mostCount, agesOf, dataOf, sameBits, withCount, older, greatest}
 use Rattle.paper.specs.Room.{depth, slots, rowOf, marked, isAt, recordOf, everyRecord, howManyIn}
-use Rattle.paper.specs.Time.{sumOf}
+use Rattle.paper.specs.Time.{subframeSeconds, sumOf}
 
 -- "kind (0 CED, 4 timing, 12 slow CED)"
+abbrev pub cedKind : ℕ
+cedKind = 0
+
+abbrev pub timingKind : ℕ
+timingKind = 4
+
+abbrev pub slowCedKind : ℕ
+slowCedKind = 12
+
 abbrev pub kindKnown : ℕ → Bool
-kindKnown kind = eqb kind 0 || eqb kind 4 || eqb kind 12
+kindKnown kind = eqb kind cedKind || eqb kind timingKind || eqb kind slowCedKind
 
 -- the tag's family
 unfoldable pub familyOf : ℕ → Family
-familyOf kind = familyIf (eqb kind 4)
+familyOf kind = familyIf (eqb kind timingKind)
 
 -- "COP 0 to 15"
 abbrev pub copAllowed : ℕ → Bool
@@ -37,7 +46,7 @@ statusAdds s = eqb s 1 || eqb s 2
 
 -- "that time less 30 s"
 unfoldable pub thirtyBefore : ℕ → ℕ → Answer
-thirtyBefore w t = sumOf w t (negsuc 29)
+thirtyBefore w t = sumOf w t (negℤ (pos subframeSeconds))
 
 -- "the first row, from row 0 up, marked with" week w, time t; the number of rows where there is none
 unfoldable pub firstRow : ℕ → ℕ → List ℕ → ℕ
@@ -80,9 +89,6 @@ unfoldable pub matches : Family → ℕ → List ℕ → List ℕ → Bool
 matches f sat bits rec = eqb (satellite rec) sat && sameBits f (dataOf f rec) bits
 
 -- "adds the length, held at 65535"
-abbrev pub mostCount : ℕ
-mostCount = 65535
-
 unfoldable pub credited : Family → ℕ → List ℕ → ℕ → List ℕ → List ℕ
 credited f sat bits l rec =
     cond (matches f sat bits rec) (withCount (min mostCount (count rec + l)) rec) rec

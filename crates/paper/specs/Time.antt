@@ -1,9 +1,9 @@
 -- "Time rules": a week 0 to 65535 and a time of week 0 to 604799.
-use Prim.Native.Nat.{ℕ, _+_, _*_, _/_, _%_}
+use Prim.Native.Nat.{ℕ, _+_, _-_, _*_, _/_, _%_}
 use mathlib.Core.Bool.{Bool, cond, _&&_}
 use mathlib.Core.List.{[], _∷_}
 use lib.Dec.{leb, ltb, eqb}
-use lib.IntN.{ℤ, pos, negsuc, natAbs, _+ℤ_, _-ℤ_, _*ℤ_}
+use lib.IntN.{ℤ, pos, negsuc, negℤ, natAbs, _+ℤ_, _-ℤ_, _*ℤ_}
 use lib.Signed.{leZ, quotZ}
 use Rattle.paper.specs.Number.{Answer, done, refused}
 
@@ -15,9 +15,13 @@ weekSeconds = 604800
 abbrev pub subframeSeconds : ℕ
 subframeSeconds = 30
 
--- the subframes of a week
+-- the subframes of a week, "20160"
 abbrev pub weekSubframes : ℕ
-weekSubframes = 20160
+weekSubframes = weekSeconds / subframeSeconds
+
+-- the start of the last subframe of a week, "604770"
+abbrev pub lastStart : ℕ
+lastStart = weekSeconds - subframeSeconds
 
 -- "A week 0 to 65535"
 abbrev pub lastWeek : ℕ
@@ -50,7 +54,7 @@ timeAt (negsuc s) = refused 7
 
 -- "Adding s seconds gives the exact sum; refused with 7 if s ≤ −604800"
 unfoldable pub sumOf : ℕ → ℕ → ℤ → Answer
-sumOf w t s = cond (leZ s (negsuc 604799)) (refused 7) (timeAt (pos (secondsOf w t) +ℤ s))
+sumOf w t s = cond (leZ s (negℤ (pos weekSeconds))) (refused 7) (timeAt (pos (secondsOf w t) +ℤ s))
 
 -- the call: 5, then 7
 unfoldable pub addSeconds : ℕ → ℕ → ℤ → Answer

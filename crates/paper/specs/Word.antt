@@ -1,12 +1,19 @@
 -- "What a word does": the table of words, and what a word does to one record.
-use Prim.Native.Nat.{ℕ, _+_, _-_, _/_}
+use Prim.Native.Nat.{ℕ, _+_, _-_, _*_, _/_, _<_, _≤_}
 use mathlib.Core.Bool.{Bool, true, false, cond, not, _&&_, _||_}
-use mathlib.Core.List.{List, [], _∷_, _++_}
-use lib.ListN.{getD, set, replicate, drop}
-use lib.Dec.{eqb, leb}
+use mathlib.Core.List.{List, [], _∷_}
+use lib.ListN.{getD, set}
+use lib.Dec.{leb, ltb, eqb}
 use Rattle.paper.specs.Bits.{moved, changed}
 use Rattle.paper.specs.Parts.{onPart}
-use Rattle.paper.specs.Record.{Family, CED, Timing, ages, dataAt, dataBytes, satellite, dataOf, withCount}
+use Rattle.paper.specs.Record.{Family, CED, Timing, sameFamily, recordBits, dataBytes, ages, satelliteAt, agesAt, dataAt, satellite, dataOf, withCount, neverThere}
+
+-- "16 bytes", and their bits
+abbrev pub wordBytes : ℕ
+wordBytes = 16
+
+abbrev pub wordBits : ℕ
+wordBits = 8 * wordBytes
 
 -- a line of the table: type, "E1B only", record bits, word bits ("upper ends are excluded"), age
 pub record Line : Type 0 where
@@ -35,18 +42,35 @@ table =
     ∷ line Timing 10 true 99 141 86 128 1
     ∷ []
 
+-- of each line: its two ranges are of one length, and lie in the record's bits and in the word's; its age is one of the record's
+unfoldable pub agrees : Line → Bool
+agrees l =
+    eqb (l .recordFrom + (l .wordTo - l .wordFrom)) (l .recordTo)
+    && leb (l .wordFrom) (l .wordTo)
+    && leb (l .recordTo) (recordBits (l .family))
+    && leb (l .wordTo) wordBits
+    && ltb (l .age) (ages (l .family))
+
+unfoldable pub allAgree : List Line → Bool
+allAgree [] = true
+allAgree (l ∷ ls) = agrees l && allAgree ls
+
+-- the lines of a family take its record one behind the other, from bit k to its end
+unfoldable pub covers : Family → ℕ → List Line → Bool
+covers f k [] = eqb k (recordBits f)
+covers f k (l ∷ ls) = cond (sameFamily (l .family) f) (eqb (l .recordFrom) k && covers f (l .recordTo) ls) (covers f k ls)
+
 -- "the part of the record that the word owns": so many bits to a bit of the record from a bit of the word, and an age
 pub data Owned : Type 0 where
   nothing : Owned
   owns : ℕ → ℕ → ℕ → ℕ → Owned
 
-abbrev isFamily : Family → Family → Bool
-isFamily CED CED = true
-isFamily CED Timing = false
-isFamily Timing CED = false
-isFamily Timing Timing = true
+-- the bits lie in the record's and in a word's, and the age is one of the record's
+abbrev pub InBounds : Family → Owned → Type 0
+InBounds f nothing = Unit {0}
+InBounds f (owns to from n age) = (to + n ≤ recordBits f) × (from + n ≤ wordBits) × (age < ages f)
 
-abbrev pick : Bool → Owned → Owned → Owned
+abbrev pub pick : Bool → Owned → Owned → Owned
 pick true a b = a
 pick false a b = b
 
@@ -55,7 +79,7 @@ unfoldable pub ownedIn : List Line → Family → ℕ → ℕ → Owned
 ownedIn [] f k band = nothing
 ownedIn (l ∷ ls) f k band =
     let r = ownedIn ls f k band in
-    pick (isFamily (l .family) f && eqb (l .type) k && (not (l .onlyE1B) || eqb band 0))
+    pick (sameFamily (l .family) f && eqb (l .type) k && (not (l .onlyE1B) || eqb band 0))
     (owns (l .recordFrom) (l .wordFrom) (l .recordTo - l .recordFrom) (l .age))
     r
 
@@ -69,9 +93,8 @@ typeOf word = getD word 0 0 / 4
 -- "If it held another satellite, its ages become 255 and its count 0; its data stays. It takes the satellite"
 unfoldable pub taken : Family → ℕ → List ℕ → List ℕ
 taken f sat rec =
-    cond (eqb (satellite rec) sat || eqb (satellite rec) 0)
-    (set rec 0 sat)
-    (sat ∷ 0 ∷ 0 ∷ (replicate (ages f) 255 ++ drop (dataAt f) rec))
+    let mine = set rec satelliteAt sat in
+    cond (eqb (satellite rec) sat || eqb (satellite rec) 0) mine (neverThere f (withCount 0 mine))
 
 -- "Only the part of the record that the word owns is written; if it changed, the count becomes 0. The age becomes 0."
 unfoldable pub written : Family → Owned → List ℕ → List ℕ → List ℕ
@@ -80,7 +103,7 @@ written f (owns to from n age) word rec =
     let d = dataOf f rec in
     let c = changed d to word from n in
     let m = onPart (λ (x : List ℕ). moved x to word from n) (dataAt f) (dataBytes f) rec in
-    let a = set m (3 + age) 0 in
+    let a = set m (agesAt + age) 0 in
     cond c (withCount 0 a) a
 
 -- the record that is chosen for a word

@@ -4,7 +4,7 @@ use mathlib.Core.Path.{_≡_, ap, _∙_}
 use Prim.Native.Nat.{ℕ}
 use Rattle.refusals.specs.Reply.{numberOf}
 use Rattle.refusals.proofs.Answers.{same-refusal}
-use Rattle.tags.specs.Place.{taggedAnswer}
+use Rattle.tags.specs.Candidates.{taggedAnswer}
 use Rattle.tags.specs.declared.Tagged.{Tagged}
 use Rattle.tags.specs.declared.Tagged.the-variants.{Taken, Refused as NotTaken}
 use Rattle.navmessage.specs.Asked.{askedAnswer}

@@ -1,19 +1,33 @@
--- Demand 3 of the code that runs: any outcomes that the contracts of the calls permit, one call after the other from a successful fresh
--- on, leave the room that the history gives, and so every record in it was earned. Assumes nothing.
+-- Demand 3 of the code that runs: any outcomes that the contracts of the calls permit, one call after the other from a fresh call that
+-- was answered 0 on, each lent the room from its first byte as far as the caller likes, leave the room that the history gives, and so
+-- every record in it was earned. Assumes nothing.
 use borrow.Fn.Kinds.{resT, endedOf, Dens}
 use denote.Triple.Clauses.{AtExit}
 use contract.Lifetimes.{Lfts}
+use native.Mathlib.Omega.{arith}
 use mathlib.Core.Path.{_≡_, refl, sym, ap, subst, _∙_}
-use mathlib.Core.List.{List, [], _∷_}
-use Prim.Native.Nat.{ℕ}
+use mathlib.Core.List.{List, [], _∷_, _++_}
+use Prim.Native.Nat.{ℕ, _≤_}
+use lib.ListN.{length, take, drop, length-append, take-append-drop}
+use lib.Seq.{take-at, drop-at}
 use Rattle.paper.specs.Number.{number}
 use Rattle.paper.specs.Record.{Family}
+use Rattle.paper.specs.Room.{roomSize}
+use Rattle.paper.specs.Answer.{freshNumber}
 use Rattle.paper.specs.Call.{Call, freshCall, feedCall, tagCall, candidateCall, askCall, resetCall, answerTo, roomAfter, run}
+use Rattle.refusals.specs.declared.Reply.the-variants.{Done}
+use Rattle.refusals.specs.Reply.{replyAnswer}
+use Rattle.stays.specs.Lent.{onWhole}
+use Rattle.stays.proofs.Stays.{number-answer}
+use Rattle.stays.proofs.Rooms.{fresh-allowed}
+use Rattle.stays.proofs.Untouched.{call-untouched}
+use Rattle.stays.proofs.Slices.{same-answer, same-room, lent-room}
 use Rattle.history.specs.Line.{Place, Inside, at, tags}
 use Rattle.history.specs.Demand.{Earned}
 use Rattle.history.proofs.Demand.{demand-3}
 use Rattle.history.proofs.Steps.{candidate-step, ask-step}
 use Rattle.promises.proofs.Joined.{fresh-is-step, feed-is-step, tag-is-step, reset-authbits-is-step}
+use Rattle.promises.proofs.Exports.{exported-fresh-is-step, exported-feed-is-step, exported-tag-is-step, exported-reset-authbits-is-step}
 use Rattle.navmessage.proofs.fresh.Reads as fresh
 use Rattle.navmessage.proofs.fresh.Kinds as fresh-kinds
 use Rattle.navmessage.proofs.feed.Reads as feed
@@ -22,81 +36,196 @@ use Rattle.navmessage.proofs.tag.Reads as tag
 use Rattle.navmessage.proofs.tag.Kinds as tag-kinds
 use Rattle.navmessage.proofs.reset_authbits.Reads as reset
 use Rattle.navmessage.proofs.reset_authbits.Kinds as reset-kinds
+use Rattle.ffi.proofs.dawnstook_fresh.Reads as c-fresh
+use Rattle.ffi.proofs.dawnstook_fresh.Kinds as c-fresh-kinds
+use Rattle.ffi.proofs.dawnstook_feed.Reads as c-feed
+use Rattle.ffi.proofs.dawnstook_feed.Kinds as c-feed-kinds
+use Rattle.ffi.proofs.dawnstook_tag.Reads as c-tag
+use Rattle.ffi.proofs.dawnstook_tag.Kinds as c-tag-kinds
+use Rattle.ffi.proofs.dawnstook_reset_authbits.Reads as c-reset
+use Rattle.ffi.proofs.dawnstook_reset_authbits.Kinds as c-reset-kinds
 
--- a call that ran: its function was lent the room before, and left the room after, as its contract permits; showing the candidate and
--- asking are lent the room to read only
-pub data Did (call : Call) (before after : List ℕ) : Type 1 where
+-- ---- one call that ran
+-- lent the first k bytes of the room, it left these; those behind them are as they were
+pub record Lent (k : ℕ) (before after lent left : List ℕ) : Type 0 where
+  pub inside : k ≤ length before
+  pub first : lent ≡ take k before
+  pub whole : after ≡ left ++ drop k before
+
+-- by its function in Rattle or by its export for C, as the contract of either permits; showing the candidate and asking are lent the
+-- room to read only
+pub data Did (call : Call) (k : ℕ) (before after : List ℕ) : Type 1 where
   freshDid : (κs : Lfts 1) (a : Dens κs fresh-kinds.ps) (r : resT fresh-kinds.r κs .Denot) (e : AtExit (endedOf 1 fresh-kinds.ps fresh-kinds.r) κs)
-      → fresh.Post κs a r e → freshCall (a .1 .0) (a .1 .1 .0) ≡ call → a .0 .now ≡ before → e .0 .now ≡ after → Did call before after
+      → fresh.Post κs a r e
+      → freshCall (a .1 .0) (a .1 .1 .0) ≡ call
+      → Lent k before after (a .0 .now) (e .0 .now) → Did call k before after
   feedDid : (κs : Lfts 2) (a : Dens κs feed-kinds.ps) (r : resT feed-kinds.r κs .Denot) (e : AtExit (endedOf 2 feed-kinds.ps feed-kinds.r) κs)
       → feed.Post κs a r e
       → feedCall (a .1 .0 .now) (a .1 .1 .0 .0) (a .1 .1 .1 .0 .wn .0) (a .1 .1 .1 .0 .tow .0) (a .1 .1 .1 .1 .0) ≡ call
-      → a .0 .now ≡ before → e .0 .now ≡ after → Did call before after
+      → Lent k before after (a .0 .now) (e .0 .now) → Did call k before after
   tagDid : (κs : Lfts 2) (a : Dens κs tag-kinds.ps) (r : resT tag-kinds.r κs .Denot) (e : AtExit (endedOf 2 tag-kinds.ps tag-kinds.r) κs)
       → tag.Post κs a r e
-      → tagCall (a .1 .0 .0) (a .1 .1 .0) (a .1 .1 .1 .0) (a .1 .1 .1 .1 .0) (a .1 .1 .1 .1 .1 .0) (a .1 .1 .1 .1 .1 .1 .0 .wn .0) (a .1 .1 .1 .1 .1 .1 .0 .tow .0) (a .1 .1 .1 .1 .1 .1 .1 .0 .now) (a .1 .1 .1 .1 .1 .1 .1 .1 .0) ≡ call
-      → a .0 .now ≡ before → e .0 .now ≡ after → Did call before after
+      → tagCall (a .1 .0 .0) (a .1 .1 .0) (a .1 .1 .1 .0) (a .1 .1 .1 .1 .0) (a .1 .1 .1 .1 .1 .0) (a .1 .1 .1 .1 .1 .1 .0 .wn .0)
+      (a .1 .1 .1 .1 .1 .1 .0 .tow .0) (a .1 .1 .1 .1 .1 .1 .1 .0 .now) (a .1 .1 .1 .1 .1 .1 .1 .1 .0)
+      ≡ call
+      → Lent k before after (a .0 .now) (e .0 .now) → Did call k before after
   resetDid : (κs : Lfts 1) (a : Dens κs reset-kinds.ps) (r : resT reset-kinds.r κs .Denot) (e : AtExit (endedOf 1 reset-kinds.ps reset-kinds.r) κs)
-      → reset.Post κs a r e → resetCall ≡ call → a .0 .now ≡ before → e .0 .now ≡ after → Did call before after
-  candidateDid : (sat kind cop w t : ℕ) → candidateCall sat kind cop w t ≡ call → before ≡ after → Did call before after
-  askDid : (f : Family) (sat : ℕ) → askCall f sat ≡ call → before ≡ after → Did call before after
+      → reset.Post κs a r e
+      → resetCall ≡ call
+      → Lent k before after (a .0 .now) (e .0 .now) → Did call k before after
+  cFreshDid : (κs : Lfts 1) (a : Dens κs c-fresh-kinds.ps) (r : resT c-fresh-kinds.r κs .Denot) (e : AtExit (endedOf 1 c-fresh-kinds.ps c-fresh-kinds.r) κs)
+      → c-fresh.Post κs a r e
+      → freshCall (a .1 .0) (a .1 .1 .0) ≡ call
+      → Lent k before after (a .0 .now) (e .0 .now) → Did call k before after
+  cFeedDid : (κs : Lfts 2) (a : Dens κs c-feed-kinds.ps) (r : resT c-feed-kinds.r κs .Denot) (e : AtExit (endedOf 2 c-feed-kinds.ps c-feed-kinds.r) κs)
+      → c-feed.Post κs a r e
+      → feedCall (a .1 .0 .now) (a .1 .1 .0) (a .1 .1 .1 .0) (a .1 .1 .1 .1 .0) (a .1 .1 .1 .1 .1 .0) ≡ call
+      → Lent k before after (a .0 .now) (e .0 .now) → Did call k before after
+  cTagDid : (κs : Lfts 2) (a : Dens κs c-tag-kinds.ps) (r : resT c-tag-kinds.r κs .Denot) (e : AtExit (endedOf 2 c-tag-kinds.ps c-tag-kinds.r) κs)
+      → c-tag.Post κs a r e
+      → tagCall (a .1 .0) (a .1 .1 .0) (a .1 .1 .1 .0) (a .1 .1 .1 .1 .0) (a .1 .1 .1 .1 .1 .0) (a .1 .1 .1 .1 .1 .1 .0)
+      (a .1 .1 .1 .1 .1 .1 .1 .0) (a .1 .1 .1 .1 .1 .1 .1 .1 .0 .now) (a .1 .1 .1 .1 .1 .1 .1 .1 .1 .0)
+      ≡ call
+      → Lent k before after (a .0 .now) (e .0 .now) → Did call k before after
+  cResetDid : (κs : Lfts 1) (a : Dens κs c-reset-kinds.ps) (r : resT c-reset-kinds.r κs .Denot) (e : AtExit (endedOf 1 c-reset-kinds.ps c-reset-kinds.r) κs)
+      → c-reset.Post κs a r e
+      → resetCall ≡ call
+      → Lent k before after (a .0 .now) (e .0 .now) → Did call k before after
+  candidateDid : (sat kind cop w t : ℕ) → candidateCall sat kind cop w t ≡ call → k ≤ length before → before ≡ after → Did call k before after
+  askDid : (f : Family) (sat : ℕ) → askCall f sat ≡ call → k ≤ length before → before ≡ after → Did call k before after
 
--- the step of the history, with other names for the call and the room
-renamed : (c call : Call) (room before left after : List ℕ) → left ≡ roomAfter c room → c ≡ call → room ≡ before → left ≡ after
-    → after ≡ roomAfter call before
-renamed c call room before left after s p q l = cc
+-- the step of the history, on the whole room
+step : (c call : Call) (k : ℕ) (before after lent left : List ℕ) → left ≡ roomAfter c lent → c ≡ call → Lent k before after lent left
+    → after ≡ roomAfter (onWhole k call before) before
+step c call k before after lent left s q L =
+    let stepped : left ≡ roomAfter call (take k before) = s ∙ rw (q, L .first) in
+    L .whole ∙ ap (λ (x : List ℕ). x ++ drop k before) stepped ∙ lent-room k before (L .inside) call
 
-pub did-is-step : (call : Call) (before after : List ℕ) → Did call before after → after ≡ roomAfter call before
-did-is-step call before after (freshDid κs a r e p c l x) = renamed _ call _ before _ after (fresh-is-step κs a r e p .1) c l x
-did-is-step call before after (feedDid κs a r e p c l x) = renamed _ call _ before _ after (feed-is-step κs a r e p .1) c l x
-did-is-step call before after (tagDid κs a r e p c l x) = renamed _ call _ before _ after (tag-is-step κs a r e p .1) c l x
-did-is-step call before after (resetDid κs a r e p c l x) =
-    renamed _ call _ before _ after (reset-authbits-is-step κs a r e p .1) c l x
-did-is-step call before after (candidateDid sat kind cop w t c x) =
-    renamed _ call _ before _ after (sym (candidate-step sat kind cop w t before .2)) c refl x
-did-is-step call before after (askDid f sat c x) = renamed _ call _ before _ after (sym (ask-step f sat before .2)) c refl x
+-- a call that changes no room changes none that it is lent in part
+idle : (call : Call) (k : ℕ) (before after : List ℕ) → ((room : List ℕ) → roomAfter call room ≡ room) → k ≤ length before → before ≡ after
+    → after ≡ roomAfter (onWhole k call before) before
+idle call k before after same h x =
+    sym x ∙ sym (take-append-drop k before) ∙ ap (λ (l : List ℕ). l ++ drop k before) (sym (same (take k before))) ∙ lent-room k before h call
 
--- calls that ran one after the other, the latest first
-pub record Next (Before : List ℕ → Type 1) (call : Call) (now : List ℕ) : Type 1 where
+pub did-is-step : (call : Call) (k : ℕ) (before after : List ℕ) → Did call k before after → after ≡ roomAfter (onWhole k call before) before
+did-is-step call k before after (freshDid κs a r e p c l) = step _ call k before after _ _ (fresh-is-step κs a r e p .1) c l
+did-is-step call k before after (feedDid κs a r e p c l) = step _ call k before after _ _ (feed-is-step κs a r e p .1) c l
+did-is-step call k before after (tagDid κs a r e p c l) = step _ call k before after _ _ (tag-is-step κs a r e p .1) c l
+did-is-step call k before after (resetDid κs a r e p c l) = step _ call k before after _ _ (reset-authbits-is-step κs a r e p .1) c l
+did-is-step call k before after (cFreshDid κs a r e p c l) = step _ call k before after _ _ (exported-fresh-is-step κs a r e p .1) c l
+did-is-step call k before after (cFeedDid κs a r e p c l) = step _ call k before after _ _ (exported-feed-is-step κs a r e p .1) c l
+did-is-step call k before after (cTagDid κs a r e p c l) = step _ call k before after _ _ (exported-tag-is-step κs a r e p .1) c l
+did-is-step call k before after (cResetDid κs a r e p c l) =
+    step _ call k before after _ _ (exported-reset-authbits-is-step κs a r e p .1) c l
+did-is-step call k before after (candidateDid sat kind cop w t c h x) =
+    idle call k before after (λ room. rw (← c) (candidate-step sat kind cop w t room .2)) h x
+did-is-step call k before after (askDid f sat c h x) = idle call k before after (λ room. rw (← c) (ask-step f sat room .2)) h x
+
+-- ---- calls that ran one after the other
+-- a call, and how many bytes of the room it was lent
+pub record Made : Type 0 where
+  pub call : Call
+  pub lent : ℕ
+
+pub record Next (Before : List ℕ → Type 1) (made : Made) (now : List ℕ) : Type 1 where
   pub room : List ℕ
   pub ran : Before room
-  pub did : Did call room now
+  pub did : Did (made .call) (made .lent) room now
 
 pub record Begun (start now : List ℕ) : Type 1 where
   pub same : now ≡ start
 
-abbrev pub Ran : List ℕ → List Call → List ℕ → Type 1
+-- the latest first
+abbrev pub Ran : List ℕ → List Made → List ℕ → Type 1
 Ran start [] now = Begun start now
-Ran start (call ∷ before) now = Next (Ran start before) call now
+Ran start (made ∷ before) now = Next (Ran start before) made now
 
-pub ran-is-run : (start : List ℕ) (calls : List Call) (now : List ℕ) → Ran start calls now → now ≡ run start calls
+-- the calls of the history: those that ran, as the whole room sees them
+abbrev pub history : List ℕ → List Made → List Call
+history start [] = []
+history start (made ∷ before) =
+    onWhole (made .lent) (made .call) (run start (history start before)) ∷ history start before
+
+pub ran-is-run : (start : List ℕ) (calls : List Made) (now : List ℕ) → Ran start calls now → now ≡ run start (history start calls)
 unfolding run
 ran-is-run start [] now ran = ran .same
-ran-is-run start (call ∷ before) now ran =
-    did-is-step call (ran .room) now (ran .did) ∙ ap (roomAfter call) (ran-is-run start before (ran .room) (ran .ran))
+ran-is-run start (made ∷ before) now ran =
+    did-is-step (made .call) (made .lent) (ran .room) now (ran .did)
+    ∙ ap (λ (room : List ℕ). roomAfter (onWhole (made .lent) (made .call) room) room) (ran-is-run start before (ran .room) (ran .ran))
+
+-- ---- the fresh call that ran, and was answered 0: the room that it left, with the bytes behind what it was lent
+pub data Began (start : List ℕ) : Type 1 where
+  freshBegan : (κs : Lfts 1) (a : Dens κs fresh-kinds.ps) (r : resT fresh-kinds.r κs .Denot) (e : AtExit (endedOf 1 fresh-kinds.ps fresh-kinds.r) κs)
+      → fresh.Post κs a r e → r ≡ Done → (behind : List ℕ) → e .0 .now ++ behind ≡ start → Began start
+  cFreshBegan : (κs : Lfts 1) (a : Dens κs c-fresh-kinds.ps) (r : resT c-fresh-kinds.r κs .Denot) (e : AtExit (endedOf 1 c-fresh-kinds.ps c-fresh-kinds.r) κs)
+      → c-fresh.Post κs a r e → r ≡ 0 → (behind : List ℕ) → e .0 .now ++ behind ≡ start → Began start
+
+-- it is a fresh call of the history, on the whole room
+record Starts (start : List ℕ) : Type 0 where
+  room : List ℕ
+  d : ℕ
+  n : ℕ
+  ok : number (answerTo (freshCall d n) room) ≡ 0
+  made : start ≡ roomAfter (freshCall d n) room
+
+starts : (d n : ℕ) (lent left behind start : List ℕ) → number (answerTo (freshCall d n) lent) ≡ 0 → left ≡ roomAfter (freshCall d n) lent
+    → left ++ behind ≡ start → Starts start
+unfolding answerTo
+starts d n lent left behind start ok e s =
+    record {
+      room = lent ++ behind;
+      d = d;
+      n = n;
+      ok = ap number (sym (same-answer k (lent ++ behind) inside (freshCall d n) fits) ∙ ap (answerTo (freshCall d n)) first) ∙ ok;
+      made =
+          sym s
+          ∙ ap (λ (x : List ℕ). x ++ behind) (e ∙ ap (roomAfter (freshCall d n)) (sym first) ∙ same-room k (lent ++ behind) inside (freshCall d n) fits)
+          ∙ whole;
+    }
+  where
+    k : ℕ
+    k = length lent
+
+    inside : k ≤ length (lent ++ behind)
+    inside = omega (arith, length-append lent behind)
+
+    first : take k (lent ++ behind) ≡ lent
+    first = take-at lent behind k refl
+
+    fits : roomSize d n ≤ k
+    fits = fresh-allowed d n lent (sym (number-answer (freshNumber d n lent) []) ∙ ok) .1
+
+    past : drop k (roomAfter (freshCall d n) (lent ++ behind)) ≡ behind
+    past = call-untouched (freshCall d n) (lent ++ behind) k fits ∙ drop-at lent behind k refl
+
+    whole : take k (roomAfter (freshCall d n) (lent ++ behind)) ++ behind ≡ roomAfter (freshCall d n) (lent ++ behind)
+    whole = ap (λ (x : List ℕ). take k (roomAfter (freshCall d n) (lent ++ behind)) ++ x) (sym past) ∙ take-append-drop k (roomAfter (freshCall d n) (lent ++ behind))
+
+began-starts : (start : List ℕ) → Began start → Starts start
+began-starts start (freshBegan κs a r e p q behind s) =
+    let is = fresh-is-step κs a r e p in
+    starts _ _ (a .0 .now) (e .0 .now) behind start (ap number (sym (is .0) ∙ ap replyAnswer q)) (is .1) s
+began-starts start (cFreshBegan κs a r e p q behind s) =
+    let is = exported-fresh-is-step κs a r e p in
+    starts _ _ (a .0 .now) (e .0 .now) behind start (sym (is .0) ∙ q) (is .1) s
 
 pub demand-3-of-the-code :
-    -- a fresh call that ran, answered 0
-    (room : List ℕ) (d n : ℕ) (start : List ℕ)
-    → Did (freshCall d n) room start
-    → number (answerTo (freshCall d n) room) ≡ 0
+    -- a fresh call that ran and was answered 0
+    (start : List ℕ)
+    → Began start
     -- and any calls that ran after it
-    → (calls : List Call) (now : List ℕ)
+    → (calls : List Made) (now : List ℕ)
     → Ran start calls now
     -- at every place inside D and N
     → (place : Place)
     → Inside now place
-    → Earned (place .family) (at now place) (tags start calls place)
-demand-3-of-the-code room d n start begun ok calls now ran place inside =
-    let first = roomAfter (freshCall d n) room in
-    let at-run = demand-3 room d n ok calls place in
-    let at-now : (x : List ℕ) → x ≡ run first calls → Inside x place → Earned (place .family) (at x place) (tags first calls place) =
-    λ x l. subst (λ y. Inside y place → Earned (place .family) (at y place) (tags first calls place)) (sym l) at-run
-    in
-    let of-start =
-    subst
-    (λ z. (x : List ℕ) → x ≡ run z calls → Inside x place → Earned (place .family) (at x place) (tags z calls place))
-    (sym (did-is-step (freshCall d n) room start begun))
-    at-now
-    in
-    of-start now (ran-is-run start calls now ran) inside
+    → Earned (place .family) (at now place) (tags start (history start calls) place)
+demand-3-of-the-code start began calls now ran place inside =
+    let s = began-starts start began in
+    let first : List ℕ = roomAfter (freshCall (s .d) (s .n)) (s .room) in
+    let whole : List Call = history start calls in
+    let at-run : Inside (run first whole) place → Earned (place .family) (at (run first whole) place) (tags first whole place) =
+    demand-3 (s .room) (s .d) (s .n) (s .ok) whole place in
+    let of-start : Inside (run start whole) place → Earned (place .family) (at (run start whole) place) (tags start whole place) =
+    subst (λ z. Inside (run z whole) place → Earned (place .family) (at (run z whole) place) (tags z whole place)) (sym (s .made)) at-run in
+    subst (λ x. Inside x place → Earned (place .family) (at x place) (tags start whole place)) (sym (ran-is-run start calls now ran)) of-start inside

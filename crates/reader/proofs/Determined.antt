@@ -8,7 +8,7 @@ use denote.Triple.Clauses.{AtExit}
 use contract.Lifetimes.{Lfts}
 use Rattle.text.proofs.Puts.{put-one}
 use Rattle.reader.specs.Reader.{standing}
-use Rattle.reader.specs.declared.Place.{Place}
+use Rattle.reader.specs.declared.Progress.{Progress}
 use Rattle.reader.proofs.Heard.{counted, kept-within}
 use Rattle.reader.proofs.take_bytes.Reads as take-bytes-reads
 use Rattle.reader.proofs.take_bytes.Kinds as take-bytes-kinds
@@ -17,14 +17,14 @@ use Rattle.reader.proofs.finish.Kinds as finish-kinds
 use Rattle.reader.proofs.run.Reads as run-reads
 use Rattle.reader.proofs.run.Kinds as run-kinds
 
-abbrev place : ℕ → ℕ → Bool → Place
-place kept said stopped = record { kept = kept; said = said; stopped = stopped }
+abbrev progress : ℕ → ℕ → Bool → Progress
+progress kept said stopped = record { kept = kept; said = said; stopped = stopped }
 
-place-one : (r r' : Place) → r .kept ≡ r' .kept → r .said ≡ r' .said → r .stopped ≡ r' .stopped → r ≡ r'
-place-one r r' e f g =
-    ap (λ (k : ℕ). place k (r .said) (r .stopped)) e
-    ∙ ap (λ (k : ℕ). place (r' .kept) k (r .stopped)) f
-    ∙ ap (λ (b : Bool). place (r' .kept) (r' .said) b) g
+progress-one : (r r' : Progress) → r .kept ≡ r' .kept → r .said ≡ r' .said → r .stopped ≡ r' .stopped → r ≡ r'
+progress-one r r' e f g =
+    ap (λ (k : ℕ). progress k (r .said) (r .stopped)) e
+    ∙ ap (λ (k : ℕ). progress (r' .kept) k (r .stopped)) f
+    ∙ ap (λ (b : Bool). progress (r' .kept) (r' .said) b) g
 
 pub take-bytes-determined :
     (κs : Lfts 4)
@@ -36,8 +36,9 @@ pub take-bytes-determined :
     ≡ standing (e' .0 .now) (e' .1 .0 .now) (r' .kept) (r' .stopped) (e' .1 .1 .1 .1 .0 .now) (r' .said))
 take-bytes-determined κs a r r' e e' p q =
     let same = p .0 ∙ sym (q .0) in
-    let counts = counted _ _ (e .1 .0 .now) (e' .1 .0 .now) (e .1 .1 .1 .1 .0 .now) (e' .1 .1 .1 .1 .0 .now) (r .kept) (r' .kept) (r .said) (r' .said) _ _ same (kept-within _ _ (p .1 .0)) (kept-within _ _ (q .1 .0)) (p .1 .1) (q .1 .1) in
-    (place-one r r' (counts .0) (counts .1) (counts .2), same)
+    let counts = counted _ _ (e .1 .0 .now) (e' .1 .0 .now) (e .1 .1 .1 .1 .0 .now) (e' .1 .1 .1 .1 .0 .now) _ _ _ _ _ _ same in
+    let counts = counts (kept-within _ _ (p .1 .0)) (kept-within _ _ (q .1 .0)) (p .1 .1) (q .1 .1) in
+    (progress-one r r' (counts .0) (counts .1) (counts .2), same)
 
 pub finish-determined :
     (κs : Lfts 2)

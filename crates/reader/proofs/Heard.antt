@@ -17,17 +17,9 @@ use Rattle.text.proofs.Puts.{take-put}
 use Rattle.lines.specs.declared.Kind.{Kind}
 use Rattle.lines.specs.declared.Kind.the-variants.{Word, Tag, Reset, Ced, Timing, Fresh, Unknown}
 use Rattle.lines.specs.Kinds.{kindOf, bodyLength}
+use Rattle.lines.proofs.Longest.{body-within}
 use Rattle.benchlines.specs.Records.{recordRoom}
 use Rattle.reader.specs.Reader.{Bench, linesFor, isUnknown, traceOf, heard, oneMore, more, restOf, standing, Unfinished}
-
-pub body-most : (kind : Kind) → bodyLength kind ≤ 24
-body-most Word = omega arith
-body-most Tag = omega arith
-body-most Reset = omega arith
-body-most Ced = omega arith
-body-most Timing = omega arith
-body-most Fresh = omega arith
-body-most Unknown = omega arith
 
 module _ (traced : Bool) (room kept : List ℕ) (have b : ℕ) (out : List ℕ) (at : ℕ) (fits : have < length kept) where
   so-far : take have kept ++ (b ∷ []) ≡ take (have + 1) (set kept have b)
@@ -128,4 +120,4 @@ counted room room' kept kept' out out' have have' at at' stopped stopped' e h h'
 
 -- what is kept of a record lies within its buffer
 pub kept-within : (kept : List ℕ) (have : ℕ) → Unfinished kept have → have ≤ length kept
-kept-within kept have u = omega (arith, body-most (kindOf (getD kept 0 0)))
+kept-within kept have u = omega (arith, body-within (kindOf (getD kept 0 0)))

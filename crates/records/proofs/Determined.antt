@@ -4,6 +4,8 @@ use mathlib.Core.Path.{_≡_, sym, _∙_}
 use borrow.Fn.Kinds.{resT, endedOf, Dens}
 use denote.Triple.Clauses.{AtExit}
 use contract.Lifetimes.{Lfts}
+use Rattle.records.proofs.one_older.Reads as one-older-reads
+use Rattle.records.proofs.one_older.Kinds as one-older-kinds
 use Rattle.records.proofs.Ced.ages.Reads as ced-ages-reads
 use Rattle.records.proofs.Ced.ages.Kinds as ced-ages-kinds
 use Rattle.records.proofs.Ced.put_ages.Reads as ced-put-ages-reads
@@ -134,3 +136,11 @@ pub data-at-determined :
     (e e' : AtExit (endedOf 0 data-at-kinds.ps data-at-kinds.r) κs)
     → data-at-reads.Post κs a r e → data-at-reads.Post κs a r' e' → r ≡ r'
 data-at-determined κs a r r' e e' p q = p ∙ sym q
+
+pub one-older-determined :
+    (κs : Lfts 0)
+    (a : Dens κs one-older-kinds.ps)
+    (r r' : resT one-older-kinds.r κs .Denot)
+    (e e' : AtExit (endedOf 0 one-older-kinds.ps one-older-kinds.r) κs)
+    → one-older-reads.Post κs a r e → one-older-reads.Post κs a r' e' → r ≡ r'
+one-older-determined κs a r r' e e' p q = p ∙ sym q

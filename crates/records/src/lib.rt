@@ -1,14 +1,28 @@
-// The two kinds of record with their sizes, and the ages of a record, which travel as a small array by value. What is done to
-// ages is written once, over any number of them.
+// The two kinds of record with their sizes, where the fields of a record start, and its ages, which travel as a small array by value.
+// What is done to ages is written once, over any number of them.
 ghost use mathlib.Core.Path.{_≡_};
 ghost use mathlib.Core.List.{map};
 ghost use Prim.Native.Nat.{max, min};
 ghost use lib.ListN.{length};
-ghost use Rattle.paper.specs.Parts.{onPart};
-ghost use Rattle.paper.specs.Record.{CED, Timing as TIMING, familyIf, ages, size, dataAt, dataBytes, agesOf, older, greatest, least};
+ghost use Rattle.paper.specs.Record.{CED, Timing as TIMING, familyIf, size, dataAt, dataBytes, agesOf, withAges, older, greatest, least};
 
-// The ages of a record of either kind stand behind its satellite and its count.
-const AGES_FROM: usize = 3;
+// Where the fields of a record of either kind start, each behind the one before it: its satellite is one byte.
+pub const SATELLITE_AT: usize = 0;
+
+// its count is two bytes
+pub const COUNT_AT: usize = SATELLITE_AT + 1;
+
+// its ages are a byte each, and its data comes behind them
+pub const AGES_AT: usize = COUNT_AT + 2;
+
+// "a count 0 to 65535"
+pub const MOST_COUNT: u16 = 65535;
+
+// The greatest age there is: as old as that, or never there.
+pub const OLDEST: u8 = 255;
+
+// "The three bits past the end": what the lowest bit of the last byte that is data weighs there.
+pub const LAST_WEIGHT: u8 = 8;
 
 // "CED: 549 bits in 69 bytes, five ages."
 pub struct Ced;
@@ -20,8 +34,10 @@ impl Ced {
     pub const BYTES: usize = 69;
     // the words that fill them, with an age for each
     pub const WORDS: usize = 5;
-    // the bytes of a record: its satellite 1, its count 2, its ages, its data
-    pub const SIZE: usize = 77;
+    // where they start in a record
+    pub const DATA_AT: usize = AGES_AT + Ced::WORDS;
+    // the bytes of a record
+    pub const SIZE: usize = Ced::DATA_AT + Ced::BYTES;
 
     // The ages of a record.
     pub fn ages(bytes: &[u8]) -> [u8; Ced::WORDS]
@@ -29,16 +45,16 @@ impl Ced {
         ensures { λ r. ⌜ r ≡ agesOf CED (now (bytes .entry)) ⌝ }
     {
         let mut found = [0u8; Ced::WORDS];
-        copy(&mut found, &bytes[AGES_FROM..AGES_FROM + Ced::WORDS]);
+        copy(&mut found, &bytes[AGES_AT..AGES_AT + Ced::WORDS]);
         found
     }
 
     // The record with these ages in the place of its own.
     pub fn put_ages(bytes: &mut [u8], new: [u8; Ced::WORDS])
         requires { ⌜ length (now bytes) ≡ size CED ⌝ }
-        ensures { λ _. ⌜ now (bytes .exit) ≡ onPart (λ _. new) 3 (ages CED) (now (bytes .entry)) ⌝ }
+        ensures { λ _. ⌜ now (bytes .exit) ≡ withAges CED new (now (bytes .entry)) ⌝ }
     {
-        copy(&mut bytes[AGES_FROM..AGES_FROM + Ced::WORDS], &new);
+        copy(&mut bytes[AGES_AT..AGES_AT + Ced::WORDS], &new);
     }
 
     // Each age so much more, held at 255.
@@ -75,8 +91,10 @@ impl Timing {
     pub const BYTES: usize = 18;
     // the words that fill them, with an age for each
     pub const WORDS: usize = 2;
-    // the bytes of a record: its satellite 1, its count 2, its ages, its data
-    pub const SIZE: usize = 23;
+    // where they start in a record
+    pub const DATA_AT: usize = AGES_AT + Timing::WORDS;
+    // the bytes of a record
+    pub const SIZE: usize = Timing::DATA_AT + Timing::BYTES;
 
     // The ages of a record.
     pub fn ages(bytes: &[u8]) -> [u8; Timing::WORDS]
@@ -84,16 +102,16 @@ impl Timing {
         ensures { λ r. ⌜ r ≡ agesOf TIMING (now (bytes .entry)) ⌝ }
     {
         let mut found = [0u8; Timing::WORDS];
-        copy(&mut found, &bytes[AGES_FROM..AGES_FROM + Timing::WORDS]);
+        copy(&mut found, &bytes[AGES_AT..AGES_AT + Timing::WORDS]);
         found
     }
 
     // The record with these ages in the place of its own.
     pub fn put_ages(bytes: &mut [u8], new: [u8; Timing::WORDS])
         requires { ⌜ length (now bytes) ≡ size TIMING ⌝ }
-        ensures { λ _. ⌜ now (bytes .exit) ≡ onPart (λ _. new) 3 (ages TIMING) (now (bytes .entry)) ⌝ }
+        ensures { λ _. ⌜ now (bytes .exit) ≡ withAges TIMING new (now (bytes .entry)) ⌝ }
     {
-        copy(&mut bytes[AGES_FROM..AGES_FROM + Timing::WORDS], &new);
+        copy(&mut bytes[AGES_AT..AGES_AT + Timing::WORDS], &new);
     }
 
     // Each age so much more, held at 255.
@@ -134,14 +152,14 @@ pub fn bytes_of(timing: bool) -> usize
     if timing { Timing::BYTES } else { Ced::BYTES }
 }
 
-// Where its data starts: the last bytes of a record are its data.
+// Where its data starts.
 pub fn data_at(timing: bool) -> usize
     ensures { λ r. ⌜ r ≡ dataAt (familyIf timing) ⌝ }
 {
     if timing {
-        Timing::SIZE - Timing::BYTES
+        Timing::DATA_AT
     } else {
-        Ced::SIZE - Ced::BYTES
+        Ced::DATA_AT
     }
 }
 
@@ -157,11 +175,11 @@ fn copy(to: &mut [u8], from: &[u8])
     }
 }
 
-// "held at 255"
-fn one_older(age: u8, by: u8) -> u8
+// An age so much more, "held at 255".
+pub fn one_older(age: u8, by: u8) -> u8
     ensures { λ r. ⌜ r ≡ older by age ⌝ }
 {
-    if by < 255 - age { age + by } else { 255 }
+    if by < OLDEST - age { age + by } else { OLDEST }
 }
 
 fn all_older(ages: &mut [u8], by: u8)
@@ -201,7 +219,7 @@ fn greatest_of(ages: &[u8]) -> u8
 fn least_of(ages: &[u8]) -> u8
     ensures { λ r. ⌜ r ≡ least (now (ages .entry)) ⌝ }
 {
-    let mut low: u8 = 255;
+    let mut low: u8 = OLDEST;
     let mut i: usize = 0;
     while i < ages.len() {
         low = smaller(low, ages[i]);

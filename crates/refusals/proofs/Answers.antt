@@ -7,9 +7,10 @@ use lib.Dec.{eqb, eqb·suc-zero}
 use Prim.Native.Nat.{ℕ, zero, suc, _+_, _≤_}
 use Rattle.paper.specs.Number.{Answer, done, refused, number, values, answer}
 use Rattle.paper.specs.Answer.{roomFor, partFor}
-use Rattle.refusals.specs.Reply.{numberOf, answerOf}
+use Rattle.refusals.specs.Reply.{numberOf, replyAnswer}
 use Rattle.refusals.specs.declared.Refusal.{Refusal}
-use Rattle.refusals.specs.declared.Refusal.the-variants.{Sizes, TooShort, NotAStore, NoSatellite, NoTime, NotAStart, OutOfTime, NotAllowed, Unknown, NoCandidate, OtherData, NotEnough, Dummy, VerdictNo, StatusAddsNothing}
+use Rattle.refusals.specs.declared.Refusal.the-variants.{Sizes, TooShort, NotAStore, NoSatellite, NoTime, NotAStart, OutOfTime, NotAllowed}
+use Rattle.refusals.specs.declared.Refusal.the-variants.{Unknown, NoCandidate, OtherData, NotEnough, Dummy, VerdictNo, StatusAddsNothing}
 use Rattle.refusals.specs.declared.Reply.{Reply}
 use Rattle.refusals.specs.declared.Reply.the-variants.{Done, Refused}
 
@@ -73,7 +74,7 @@ above-zero VerdictNo = omega arith
 above-zero StatusAddsNothing = omega arith
 
 -- two replies with one answer are one
-pub same-reply : (a b : Reply) → answerOf a ≡ answerOf b → a ≡ b
+pub same-reply : (a b : Reply) → replyAnswer a ≡ replyAnswer b → a ≡ b
 same-reply Done Done e = refl
 same-reply Done (Refused w) e = absurd (let z : _≡_ {A = ℕ} 0 1 = cc in omega arith)
 same-reply (Refused v) Done e = absurd (let z : _≡_ {A = ℕ} 0 1 = cc in omega arith)
@@ -106,8 +107,8 @@ pub done-room : (n : ℕ) (after room : List ℕ) → n ≡ 0 → after ≡ room
 done-room n after room e = rw e
 
 -- a reply that refuses leaves the room, and one that is done has the number 0
-pub refuses : (r : Reply) (w : Refusal) (k : ℕ) (v after room : List ℕ) → r ≡ Refused w → answerOf r ≡ answer k v → room ≡ roomFor k after room
-refuses r w k v after room q e = refused-room (numberOf w) k v after room (ap answerOf (sym q) ∙ e)
+pub refuses : (r : Reply) (w : Refusal) (k : ℕ) (v after room : List ℕ) → r ≡ Refused w → replyAnswer r ≡ answer k v → room ≡ roomFor k after room
+refuses r w k v after room q e = refused-room (numberOf w) k v after room (ap replyAnswer (sym q) ∙ e)
 
-pub does : (r : Reply) (k : ℕ) (v : List ℕ) → r ≡ Done → answerOf r ≡ answer k v → k ≡ 0
-does r k v q e = done-number k v [] (ap answerOf (sym q) ∙ e)
+pub does : (r : Reply) (k : ℕ) (v : List ℕ) → r ≡ Done → replyAnswer r ≡ answer k v → k ≡ 0
+does r k v q e = done-number k v [] (ap replyAnswer (sym q) ∙ e)

@@ -3,7 +3,8 @@ use Prim.Native.Nat.{ℕ}
 use mathlib.Core.List.{[]}
 use Rattle.paper.specs.Number.{Answer, done, refused}
 use Rattle.refusals.specs.declared.Refusal.{Refusal}
-use Rattle.refusals.specs.declared.Refusal.the-variants.{Sizes, TooShort, NotAStore, NoSatellite, NoTime, NotAStart, OutOfTime, NotAllowed, Unknown, NoCandidate, OtherData, NotEnough, Dummy, VerdictNo, StatusAddsNothing}
+use Rattle.refusals.specs.declared.Refusal.the-variants.{Sizes, TooShort, NotAStore, NoSatellite, NoTime, NotAStart, OutOfTime, NotAllowed}
+use Rattle.refusals.specs.declared.Refusal.the-variants.{Unknown, NoCandidate, OtherData, NotEnough, Dummy, VerdictNo, StatusAddsNothing}
 use Rattle.refusals.specs.declared.Reply.{Reply}
 use Rattle.refusals.specs.declared.Reply.the-variants.{Done, Refused}
 
@@ -26,6 +27,6 @@ numberOf VerdictNo = 17
 numberOf StatusAddsNothing = 18
 
 -- the paper's answer: 0 with no values, or the refusal's number
-abbrev pub answerOf : Reply → Answer
-answerOf Done = done []
-answerOf (Refused why) = refused (numberOf why)
+abbrev pub replyAnswer : Reply → Answer
+replyAnswer Done = done []
+replyAnswer (Refused why) = refused (numberOf why)

@@ -1,6 +1,5 @@
--- The promises of `ring` are tight: any two outcomes that a contract permits are equal, the room or the row at exit, and the row that `settle` answers.
-use mathlib.Core.Path.{_≡_, sym, ap, _∙_}
-use Rattle.paper.specs.Room.{current}
+-- The promises of `ring` are tight: any two outcomes that a contract permits are equal, the room or the row at exit.
+use mathlib.Core.Path.{_≡_, sym, _∙_}
 use borrow.Fn.Kinds.{resT, endedOf, Dens}
 use denote.Triple.Clauses.{AtExit}
 use contract.Lifetimes.{Lfts}
@@ -32,7 +31,5 @@ pub settle-determined :
     (a : Dens κs settle-kinds.ps)
     (r r' : resT settle-kinds.r κs .Denot)
     (e e' : AtExit (endedOf 1 settle-kinds.ps settle-kinds.r) κs)
-    → settle-reads.Post κs a r e → settle-reads.Post κs a r' e' → (r ≡ r') × (e .0 .now ≡ e' .0 .now)
-settle-determined κs a r r' e e' p q =
-    let same = p .1 ∙ sym (q .1) in
-    (p .0 ∙ ap current same ∙ sym (q .0), same)
+    → settle-reads.Post κs a r e → settle-reads.Post κs a r' e' → e .0 .now ≡ e' .0 .now
+settle-determined κs a r r' e e' p q = p ∙ sym q

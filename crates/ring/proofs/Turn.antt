@@ -6,48 +6,49 @@ use mathlib.Core.Bool.{Bool, true, false, cond, not}
 use mathlib.Core.List.{List, _++_, map}
 use mathlib.Core.Logic.{_⊎_, ⊎-elim, inl, inr}
 use Prim.Native.Nat.{ℕ, _+_, _*_, _-_, _≤_}
-use borrow.Author.Tests.{eq-eqb, ne-eqb}
-use lib.ListN.{length, getD, set, take, drop}
-use Rattle.paper.specs.Parts.{onPart, onParts}
-use Rattle.paper.specs.Record.{Family, CED, Timing, ages, size, agesOf, older, aged}
-use Rattle.paper.specs.Room.{slotSize, base, rowSize, depth, slots, current, rowAt, rowOf, isAt, inSlot, eachRecord}
+use lib.ListN.{length, set, take, drop}
+use Rattle.paper.specs.Parts.{onParts}
+use Rattle.paper.specs.Record.{Family, CED, Timing, agesAt, ages, size, agesOf, withAges, older, aged}
+use Rattle.paper.specs.Room.{currentAt, headSize, slotSize, base, rowSize, depth, slots, current, rowAt, rowOf, marked, isAt, inSlot, eachRecord}
+use Rattle.paper.specs.Store.{InRange}
 use Rattle.paper.specs.Feed.{nextRow, moves, copied, agedRow, advanced}
 use Rattle.paper.proofs.Parts.{Keeps, onPart-by, onPart-length, part-back-at}
-use Rattle.paper.proofs.Views.{Facts, slot-fits, row-inside}
+use Rattle.paper.proofs.Views.{slot-fits, row-inside}
 use Rattle.paper.proofs.Lengths.{keeps-aged}
 use Rattle.paper.proofs.WordViews.{nextRow-lt, advanced-facts}
 use Rattle.rows.proofs.Where.{next-apart}
 use Rattle.ring.specs.Slot.{agedSlot}
 use Rattle.ring.proofs.Passes.{onParts-twice}
 
-pub records-apart : (n from to : ℕ) → (to ≤ from) ⊎ (from + rowSize n ≤ to) → (to + 8 ≤ from + 8) ⊎ (from + 8 + n * slotSize ≤ to + 8)
+pub records-apart : (n from to : ℕ) → (to ≤ from) ⊎ (from + rowSize n ≤ to)
+    → (to + headSize ≤ from + headSize) ⊎ (from + headSize + n * slotSize ≤ to + headSize)
 records-apart n from to d = ⊎-elim (λ h. inl (omega arith)) (λ h. inr (omega arith)) d
 
 -- ages that are put back, each so much more
-pub aged-by : (f : Family) (by : ℕ) (rec new : List ℕ) → new ≡ map (older by) (agesOf f rec) → onPart (λ _. new) 3 (ages f) rec ≡ aged f by rec
+pub aged-by : (f : Family) (by : ℕ) (rec new : List ℕ) → new ≡ map (older by) (agesOf f rec) → withAges f new rec ≡ aged f by rec
 unfolding aged
-aged-by f by rec new e = onPart-by (λ _. new) (map (older by)) 3 (ages f) rec e
+aged-by f by rec new e = onPart-by (λ _. new) (map (older by)) agesAt (ages f) rec e
 
 keeps-inSlot : (f : Family) (by : ℕ) → Keeps (inSlot f (aged f by)) slotSize
 keeps-inSlot f by slot e = onPart-length (aged f by) (size f) (keeps-aged f by) (base f) slot (omega (arith, slot-fits f)) ∙ e
 
-pub aged-once : (n : ℕ) (row : List ℕ) → rowSize n ≤ length row → agedRow n row ≡ onParts (agedSlot 1) slotSize n 8 row
+pub aged-once : (n : ℕ) (row : List ℕ) → rowSize n ≤ length row → agedRow n row ≡ onParts (agedSlot 1) slotSize n headSize row
 unfolding agedRow eachRecord
 aged-once n row h =
-    onParts-twice (inSlot Timing (aged Timing 1)) (inSlot CED (aged CED 1)) slotSize (keeps-inSlot Timing 1) (keeps-inSlot CED 1) n 8 row h
+    onParts-twice (inSlot Timing (aged Timing 1)) (inSlot CED (aged CED 1)) slotSize (keeps-inSlot Timing 1) (keeps-inSlot CED 1) n headSize row h
 
 module _ (w t : ℕ) (room row : List ℕ) (e : row ≡ rowOf (current room) room) where
-  pub moves-blank : (getD row 0 0 ≡ 1 → ⊥) → false ≡ moves w t room
+  pub moves-blank : marked row ≡ false → false ≡ moves w t room
   unfolding moves
-  moves-blank h = rw (← e) (simp (ne-eqb (getD row 0 0) 1 h))
+  moves-blank h = rw (← e, h)
 
-  pub moves-marked : (b : Bool) → getD row 0 0 ≡ 1 → b ≡ isAt w t row → not b ≡ moves w t room
+  pub moves-marked : (b : Bool) → marked row ≡ true → b ≡ isAt w t row → not b ≡ moves w t room
   unfolding moves
-  moves-marked b h g = rw (← e, ← g) (simp (eq-eqb (getD row 0 0) 1 h))
+  moves-marked b h g = rw (← e, ← g, h)
 
 -- what the code knows of the rows before it copies: row c of d at `from`, the next row at `to`
 pub record Next (room : List ℕ) (d n c next from to : ℕ) : Type 0 where
-  pub facts : Facts room
+  pub facts : InRange room
   pub rows : d ≡ depth room
   pub count : n ≡ slots room
   pub row : c ≡ current room
@@ -60,7 +61,7 @@ module _ {room : List ℕ} {d n c next from to : ℕ} (s : Next room d n c next 
   pub next-fits : to + rowSize n ≤ length room
   next-fits =
       rw (s .target, s .ahead, s .count, s .rows)
-      (row-inside room (s .facts) (nextRow (depth room) c) (nextRow-lt (depth room) c (s .facts .rows1)))
+      (row-inside room (s .facts) (nextRow (depth room) c) (nextRow-lt (depth room) c (s .facts .someRow)))
 
   pub copy-fits : ((to ≤ from) ⊎ (from + rowSize n ≤ to)) × ((from + rowSize n ≤ length room) × (to + rowSize n ≤ length room))
   copy-fits = (
@@ -70,16 +71,16 @@ module _ {room : List ℕ} {d n c next from to : ℕ} (s : Next room d n c next 
 
   -- the copy, the row made current and its ages are together the paper's advance
   pub advanced-by : {size : ℕ} {copy after : List ℕ} → size ≡ rowSize n
-      → copy ≡ copied n from to room → after ≡ agedRow n (take (to + size - to) (drop to (set copy 2 next)))
-      → take to (set copy 2 next) ++ (after ++ drop (to + size - to) (drop to (set copy 2 next))) ≡ advanced room
+      → copy ≡ copied n from to room → after ≡ agedRow n (take (to + size - to) (drop to (set copy currentAt next)))
+      → take to (set copy currentAt next) ++ (after ++ drop (to + size - to) (drop to (set copy currentAt next))) ≡ advanced room
   unfolding advanced
   advanced-by {size} {copy} {after} long e a =
-      part-back-at (agedRow n) to size (set copy 2 next) after a ∙ rw (e, long, s .source, s .target, s .ahead, s .row, s .count, s .rows)
+      part-back-at (agedRow n) to size (set copy currentAt next) after a ∙ rw (e, long, s .source, s .target, s .ahead, s .row, s .count, s .rows)
 
 -- what is known of a store holds after the ring has moved, or not
-pub moved-facts : (w t : ℕ) (room : List ℕ) → Facts room → Facts (cond (moves w t room) (advanced room) room)
+pub moved-facts : (w t : ℕ) (room : List ℕ) → InRange room → InRange (cond (moves w t room) (advanced room) room)
 moved-facts w t room F = go (moves w t room)
   where
-    go : (b : Bool) → Facts (cond b (advanced room) room)
+    go : (b : Bool) → InRange (cond b (advanced room) room)
     go true = advanced-facts room F
     go false = F

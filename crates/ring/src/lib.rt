@@ -6,10 +6,11 @@ ghost use mathlib.Core.Logic.{_⊎_};
 ghost use Prim.Native.Nat.{_+_, _≤_};
 ghost use lib.ListN.{length};
 ghost use Rattle.paper.specs.Record.{CED, Timing as TIMING, size, aged};
-ghost use Rattle.paper.specs.Room.{slotSize, rowSize, current};
-ghost use Rattle.paper.proofs.Views.{Facts};
+ghost use Rattle.paper.specs.Room.{slotSize, rowSize};
+ghost use Rattle.paper.specs.Store.{InRange};
 ghost use Rattle.paper.specs.Feed.{moves, copied, agedRow, advanced, currentMarked, settled};
 ghost use Rattle.ring.specs.Slot.{agedSlot};
+use layout::CURRENT_AT;
 use layout::ROW_HEAD;
 use layout::SLOT;
 use layout::TIMING_AT;
@@ -74,14 +75,11 @@ pub fn age_row(row: &mut [u8], n: usize)
 
 // "If the current row has a subframe other than T"
 fn has_other_subframe(room: &[u8], week: u16, time: u32) -> bool
-    requires { ⌜ Facts (now room) ⌝ }
+    requires { ⌜ InRange (now room) ⌝ }
     ensures { λ r. ⌜ r ≡ moves week time (now (room .entry)) ⌝ }
 {
-    let n = rows::wide(room[1]);
-    let at = rows::row_start(n, rows::wide(room[2]));
-    let e = at + rows::row_size(n);
-    let row = &room[at..e];
-    if row[0] != 1 {
+    let row = rows::row(room, rows::current(room));
+    if !rows::is_marked(row) {
         return false;
     }
     !rows::is_at(row, week, time)
@@ -89,22 +87,23 @@ fn has_other_subframe(room: &[u8], week: u16, time: u32) -> bool
 
 // "the next row takes a copy of all records, becomes current, and all its ages rise by one"
 fn advance(room: &mut [u8])
-    requires { ⌜ Facts (now room) ⌝ }
+    requires { ⌜ InRange (now room) ⌝ }
     ensures { λ _. ⌜ now (room .exit) ≡ advanced (now (room .entry)) ⌝ }
 {
-    let n = rows::wide(room[1]);
-    let c = rows::wide(room[2]);
-    let next = rows::next_row(rows::wide(room[0]), c);
+    let n = rows::slots(room);
+    let c = rows::current(room);
+    let next = rows::next_row(rows::depth(room), c);
     let to = rows::row_start(n, next);
     copy_records(room, n, rows::row_start(n, c), to);
-    room[2] = next as u8;
+    room[CURRENT_AT] = next as u8;
     let e = to + rows::row_size(n);
     age_row(&mut room[to..e], n);
 }
 
 fn advance_for(room: &mut [u8], week: u16, time: u32)
-    requires { ⌜ Facts (now room) ⌝ }
-    ensures { λ _. ⌜ now (room .exit) ≡ cond (moves week time (now (room .entry))) (advanced (now (room .entry))) (now (room .entry)) ⌝ }
+    requires { ⌜ InRange (now room) ⌝ }
+    ensures { λ _. ⌜ now (room .exit)
+        ≡ cond (moves week time (now (room .entry))) (advanced (now (room .entry))) (now (room .entry)) ⌝ }
 {
     if !has_other_subframe(room, week, time) {
         return;
@@ -112,24 +111,22 @@ fn advance_for(room: &mut [u8], week: u16, time: u32)
     advance(room);
 }
 
-// "The current row is then marked T"; which one it is.
-fn mark_current(room: &mut [u8], week: u16, time: u32) -> usize
-    requires { ⌜ Facts (now room) ⌝ }
-    ensures { λ r. ⌜ (r ≡ current (now (room .entry))) × (now (room .exit) ≡ currentMarked week time (now (room .entry))) ⌝ }
+// "The current row is then marked T"
+fn mark_current(room: &mut [u8], week: u16, time: u32)
+    requires { ⌜ InRange (now room) ⌝ }
+    ensures { λ _. ⌜ now (room .exit) ≡ currentMarked week time (now (room .entry)) ⌝ }
 {
-    let n = rows::wide(room[1]);
-    let c = rows::wide(room[2]);
-    let at = rows::row_start(n, c);
+    let n = rows::slots(room);
+    let at = rows::row_start(n, rows::current(room));
     let e = at + rows::row_size(n);
     rows::mark_row(&mut room[at..e], week, time);
-    c
 }
 
-// The ring before the records of the current row are chosen; which row is current then.
-pub fn settle(room: &mut [u8], week: u16, time: u32) -> usize
-    requires { ⌜ Facts (now room) ⌝ }
-    ensures { λ r. ⌜ (r ≡ current (now (room .exit))) × (now (room .exit) ≡ settled week time (now (room .entry))) ⌝ }
+// The ring before the records of the current row are chosen.
+pub fn settle(room: &mut [u8], week: u16, time: u32)
+    requires { ⌜ InRange (now room) ⌝ }
+    ensures { λ _. ⌜ now (room .exit) ≡ settled week time (now (room .entry)) ⌝ }
 {
     advance_for(room, week, time);
-    mark_current(room, week, time)
+    mark_current(room, week, time);
 }

@@ -3,8 +3,20 @@ use mathlib.Core.Path.{_≡_, sym, _∙_}
 use borrow.Fn.Kinds.{resT, endedOf, Dens}
 use denote.Triple.Clauses.{AtExit}
 use contract.Lifetimes.{Lfts}
-use Rattle.rows.proofs.wide.Reads as wide-reads
-use Rattle.rows.proofs.wide.Kinds as wide-kinds
+use Rattle.rows.proofs.depth.Reads as depth-reads
+use Rattle.rows.proofs.depth.Kinds as depth-kinds
+use Rattle.rows.proofs.slots.Reads as slots-reads
+use Rattle.rows.proofs.slots.Kinds as slots-kinds
+use Rattle.rows.proofs.current.Reads as current-reads
+use Rattle.rows.proofs.current.Kinds as current-kinds
+use Rattle.rows.proofs.row.Reads as row-reads
+use Rattle.rows.proofs.row.Kinds as row-kinds
+use Rattle.rows.proofs.room_size.Reads as room-size-reads
+use Rattle.rows.proofs.room_size.Kinds as room-size-kinds
+use Rattle.rows.proofs.slot_start.Reads as slot-start-reads
+use Rattle.rows.proofs.slot_start.Kinds as slot-start-kinds
+use Rattle.rows.proofs.is_marked.Reads as is-marked-reads
+use Rattle.rows.proofs.is_marked.Kinds as is-marked-kinds
 use Rattle.rows.proofs.row_size.Reads as row-size-reads
 use Rattle.rows.proofs.row_size.Kinds as row-size-kinds
 use Rattle.rows.proofs.row_start.Reads as row-start-reads
@@ -20,13 +32,61 @@ use Rattle.rows.proofs.is_at.Kinds as is-at-kinds
 use Rattle.rows.proofs.mark_row.Reads as mark-row-reads
 use Rattle.rows.proofs.mark_row.Kinds as mark-row-kinds
 
-pub wide-determined :
+pub depth-determined :
+    (κs : Lfts 1)
+    (a : Dens κs depth-kinds.ps)
+    (r r' : resT depth-kinds.r κs .Denot)
+    (e e' : AtExit (endedOf 1 depth-kinds.ps depth-kinds.r) κs)
+    → depth-reads.Post κs a r e → depth-reads.Post κs a r' e' → r ≡ r'
+depth-determined κs a r r' e e' p q = p .0 ∙ sym (q .0)
+
+pub slots-determined :
+    (κs : Lfts 1)
+    (a : Dens κs slots-kinds.ps)
+    (r r' : resT slots-kinds.r κs .Denot)
+    (e e' : AtExit (endedOf 1 slots-kinds.ps slots-kinds.r) κs)
+    → slots-reads.Post κs a r e → slots-reads.Post κs a r' e' → r ≡ r'
+slots-determined κs a r r' e e' p q = p .0 ∙ sym (q .0)
+
+pub current-determined :
+    (κs : Lfts 1)
+    (a : Dens κs current-kinds.ps)
+    (r r' : resT current-kinds.r κs .Denot)
+    (e e' : AtExit (endedOf 1 current-kinds.ps current-kinds.r) κs)
+    → current-reads.Post κs a r e → current-reads.Post κs a r' e' → r ≡ r'
+current-determined κs a r r' e e' p q = p .0 ∙ sym (q .0)
+
+pub row-determined :
+    (κs : Lfts 1)
+    (a : Dens κs row-kinds.ps)
+    (r r' : resT row-kinds.r κs .Denot)
+    (e e' : AtExit (endedOf 1 row-kinds.ps row-kinds.r) κs)
+    → row-reads.Post κs a r e → row-reads.Post κs a r' e' → r .now ≡ r' .now
+row-determined κs a r r' e e' p q = p .0 ∙ sym (q .0)
+
+pub room-size-determined :
     (κs : Lfts 0)
-    (a : Dens κs wide-kinds.ps)
-    (r r' : resT wide-kinds.r κs .Denot)
-    (e e' : AtExit (endedOf 0 wide-kinds.ps wide-kinds.r) κs)
-    → wide-reads.Post κs a r e → wide-reads.Post κs a r' e' → r ≡ r'
-wide-determined κs a r r' e e' p q = p .0 ∙ sym (q .0)
+    (a : Dens κs room-size-kinds.ps)
+    (r r' : resT room-size-kinds.r κs .Denot)
+    (e e' : AtExit (endedOf 0 room-size-kinds.ps room-size-kinds.r) κs)
+    → room-size-reads.Post κs a r e → room-size-reads.Post κs a r' e' → r ≡ r'
+room-size-determined κs a r r' e e' p q = p ∙ sym q
+
+pub slot-start-determined :
+    (κs : Lfts 0)
+    (a : Dens κs slot-start-kinds.ps)
+    (r r' : resT slot-start-kinds.r κs .Denot)
+    (e e' : AtExit (endedOf 0 slot-start-kinds.ps slot-start-kinds.r) κs)
+    → slot-start-reads.Post κs a r e → slot-start-reads.Post κs a r' e' → r ≡ r'
+slot-start-determined κs a r r' e e' p q = p ∙ sym q
+
+pub is-marked-determined :
+    (κs : Lfts 1)
+    (a : Dens κs is-marked-kinds.ps)
+    (r r' : resT is-marked-kinds.r κs .Denot)
+    (e e' : AtExit (endedOf 1 is-marked-kinds.ps is-marked-kinds.r) κs)
+    → is-marked-reads.Post κs a r e → is-marked-reads.Post κs a r' e' → r ≡ r'
+is-marked-determined κs a r r' e e' p q = p ∙ sym q
 
 pub row-size-determined :
     (κs : Lfts 0)

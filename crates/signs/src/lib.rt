@@ -1,17 +1,17 @@
-// Signed numbers at the edge of the programs: a number without its sign, and the number that 32 bits are.
+// Signed numbers: one without its sign, and the one that 32 bits are.
 ghost use mathlib.Core.Path.{_≡_};
 ghost use lib.IntN.{natAbs};
 ghost use Rattle.signs.specs.Signs.{twosComplement};
 
 // A number without its sign: the least i32 has a size too.
-pub fn size(n: i32) -> u64
+pub fn size(n: i32) -> u32
     ensures { λ r. ⌜ r ≡ natAbs n ⌝ }
 {
     let wide = n as i64;
     if wide < 0 {
-        return (0 - wide) as u64;
+        return (0 - wide) as u32;
     }
-    wide as u64
+    wide as u32
 }
 
 // The number that four bytes are in two's complement.

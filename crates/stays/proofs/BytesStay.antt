@@ -2,7 +2,7 @@
 use mathlib.Core.Bool.{Bool, true, false, cond}
 use mathlib.Core.List.{List, [], _∷_, _++_, map}
 use mathlib.Core.Path.{_≡_, refl}
-use Prim.Native.Nat.{ℕ, zero, suc, _+_, _*_, _<_, min}
+use Prim.Native.Nat.{ℕ, zero, suc, _+_, _*_, _<_, min, _-_}
 use native.Mathlib.Omega.{arith}
 use lib.Dec.{ltb}
 use borrow.Author.Tests.{ltb-true}
@@ -10,12 +10,13 @@ use lib.ListN.{drop, set, replicate}
 use Rattle.paper.specs.Big.{put16}
 use Rattle.paper.specs.Bits.{moved, changed}
 use Rattle.paper.specs.Parts.{part, onPart, Bytes}
-use Rattle.paper.specs.Record.{Family, CED, Timing, dataBytes, ages, size, dataAt, satellite, count, dataOf, withCount, older, aged, blankRecord}
-use Rattle.paper.specs.Room.{slotSize, base, rowSize, depth, slots, current, rowAt, recordAt, inSlot, eachRecord, everyRecord}
+use Rattle.paper.specs.Record.{Family, CED, Timing, dataBytes, ages, size, dataAt, satellite, count, dataOf}
+use Rattle.paper.specs.Record.{withCount, older, aged, blankRecord, mostCount, agesAt, countAt, neverThere, satelliteAt, oldest}
+use Rattle.paper.specs.Room.{slotSize, base, rowSize, depth, slots, current, rowAt, recordAt, inSlot, eachRecord, everyRecord, headSize, headerSize, currentAt, markAt, depthAt, weekAt, timeAt}
 use Rattle.paper.specs.Word.{Owned, nothing, owns, owned, typeOf, taken, written, fedRecord}
 use Rattle.paper.specs.Fresh.{header, blankSlot, blankRow, fresh}
-use Rattle.paper.specs.Feed.{nextRow, moves, copied, agedRow, advanced, markedAt, currentMarked, settled, chosen, fedFamily, fedRow, fed}
-use Rattle.paper.specs.Tag.{matches, mostCount, credited, tagged, familyOf, candidateRecord}
+use Rattle.paper.specs.Feed.{nextRow, moves, copied, agedRow, advanced, markedAt, currentMarked, settled, chosen, fedFamily, fedRow, fed, fedCurrent}
+use Rattle.paper.specs.Tag.{matches, credited, tagged, familyOf, candidateRecord}
 use Rattle.paper.specs.Reset.{reset}
 use Rattle.paper.specs.Answer.{freshNumber, freshRoom, feedNumber, feedRoom, tagNumber, tagRoom, resetNumber, resetRoom}
 use Rattle.paper.specs.Call.{Call, freshCall, feedCall, tagCall, candidateCall, askCall, resetCall, roomAfter, run}
@@ -36,25 +37,28 @@ bytes-map g h (x ∷ l) (suc k) = bytes-map g h l k
 
 bytes-aged : (f : Family) (rec : List ℕ) → Bytes rec → Bytes (aged f 1 rec)
 unfolding aged
-bytes-aged f rec b = bytes-onPart (map (older 1)) 3 (ages f) rec b (λ _. bytes-map (older 1) (λ x. omega arith) (part 3 (ages f) rec))
+bytes-aged f rec b = bytes-onPart (map (older 1)) agesAt (ages f) rec b (λ _. bytes-map (older 1) (λ x. omega arith) (part agesAt (ages f) rec))
 
 bytes-withCount : (c : ℕ) (rec : List ℕ) → c < 65536 → Bytes rec → Bytes (withCount c rec)
-bytes-withCount c rec h b = bytes-put16 rec 1 c b h
+bytes-withCount c rec h b = bytes-put16 rec countAt c b h
+
+bytes-neverThere : (f : Family) (rec : List ℕ) → Bytes rec → Bytes (neverThere f rec)
+bytes-neverThere f rec b =
+    bytes-onPart (λ (_ : List ℕ). replicate (ages f) oldest) agesAt (ages f) rec b (λ _. bytes-replicate (ages f) oldest (omega arith))
 
 bytes-taken : (f : Family) (sat : ℕ) (rec : List ℕ) → sat < 256 → Bytes rec → Bytes (taken f sat rec)
 unfolding taken
 bytes-taken f sat rec h b = go (heldOrFree sat rec)
   where
-    over : List ℕ
-    over = replicate (ages f) 255 ++ drop (dataAt f) rec
+    mine : List ℕ
+    mine = set rec satelliteAt sat
 
-    go : (c : Bool) → Bytes (cond c (set rec 0 sat) (sat ∷ 0 ∷ 0 ∷ over))
-    go true = bytes-set rec 0 sat b h
-    go false =
-        bytes-cons sat (0 ∷ 0 ∷ over) h
-        (bytes-cons 0 (0 ∷ over) (omega arith)
-        (bytes-cons 0 over (omega arith)
-        (bytes-append (replicate (ages f) 255) (drop (dataAt f) rec) (bytes-replicate (ages f) 255 (omega arith)) (bytes-drop (dataAt f) rec b))))
+    bytes-mine : Bytes mine
+    bytes-mine = bytes-set rec satelliteAt sat b h
+
+    go : (c : Bool) → Bytes (cond c mine (neverThere f (withCount 0 mine)))
+    go true = bytes-mine
+    go false = bytes-neverThere f (withCount 0 mine) (bytes-withCount 0 mine (omega arith) bytes-mine)
 
 bytes-written : (f : Family) (o : Owned) (word rec : List ℕ) → Bytes rec → Bytes (written f o word rec)
 unfolding written
@@ -62,11 +66,11 @@ bytes-written f nothing word rec b = b
 bytes-written f (owns to from n age) word rec b = go (changed (dataOf f rec) to word from n)
   where
     touched : List ℕ
-    touched = set (onPart (λ (x : List ℕ). moved x to word from n) (dataAt f) (dataBytes f) rec) (3 + age) 0
+    touched = set (onPart (λ (x : List ℕ). moved x to word from n) (dataAt f) (dataBytes f) rec) (agesAt + age) 0
 
     bytes-touched : Bytes touched
     bytes-touched =
-        bytes-set (onPart (λ (x : List ℕ). moved x to word from n) (dataAt f) (dataBytes f) rec) (3 + age) 0
+        bytes-set (onPart (λ (x : List ℕ). moved x to word from n) (dataAt f) (dataBytes f) rec) (agesAt + age) 0
         (bytes-onPart (λ (x : List ℕ). moved x to word from n) (dataAt f) (dataBytes f) rec b (λ d. bytes-moved (dataOf f rec) to word from n d))
         (omega arith)
 
@@ -88,25 +92,18 @@ bytes-credited f sat bits l rec b = go (matches f sat bits rec)
 
 bytes-blank : (f : Family) → Bytes (blankRecord f)
 unfolding blankRecord
-bytes-blank f =
-    bytes-cons 0 (0 ∷ 0 ∷ rest) (omega arith)
-    (bytes-cons 0 (0 ∷ rest) (omega arith)
-    (bytes-cons 0 rest (omega arith)
-    (bytes-append (replicate (ages f) 255) (replicate (dataBytes f) 0) (bytes-replicate (ages f) 255 (omega arith)) (bytes-replicate (dataBytes f) 0 (omega arith)))))
-  where
-    rest : List ℕ
-    rest = replicate (ages f) 255 ++ replicate (dataBytes f) 0
+bytes-blank f = bytes-neverThere f (replicate (size f) 0) (bytes-replicate (size f) 0 (omega arith))
 
 -- ---- all records
 bytes-eachRecord : (f : Family) (n : ℕ) (g : List ℕ → List ℕ) → ((r : List ℕ) → Bytes r → Bytes (g r)) → (row : List ℕ) → Bytes row → Bytes (eachRecord f n g row)
 unfolding eachRecord
 bytes-eachRecord f n g h row b =
-    bytes-onParts (inSlot f g) slotSize (λ slot c. bytes-onPart g (base f) (size f) slot c (λ d. h (part (base f) (size f) slot) d)) n 8 row b
+    bytes-onParts (inSlot f g) slotSize (λ slot c. bytes-onPart g (base f) (size f) slot c (λ d. h (part (base f) (size f) slot) d)) n headSize row b
 
 bytes-everyRecord : (f : Family) (g : List ℕ → List ℕ) → ((r : List ℕ) → Bytes r → Bytes (g r)) → (room : List ℕ) → Bytes room → Bytes (everyRecord f g room)
 unfolding everyRecord
 bytes-everyRecord f g h room b =
-    bytes-onParts (eachRecord f (slots room) g) (rowSize (slots room)) (λ row c. bytes-eachRecord f (slots room) g h row c) (depth room) 8 room b
+    bytes-onParts (eachRecord f (slots room) g) (rowSize (slots room)) (λ row c. bytes-eachRecord f (slots room) g h row c) (depth room) headerSize room b
 
 bytes-tagged : (f : Family) (candidate : List ℕ) (l : ℕ) (room : List ℕ) → Bytes room → Bytes (tagged f candidate l room)
 unfolding tagged
@@ -131,8 +128,8 @@ bytes-agedRow n row b =
 bytes-copied : (n from to : ℕ) (room : List ℕ) → Bytes room → Bytes (copied n from to room)
 unfolding copied
 bytes-copied n from to room b =
-    bytes-onPart (λ (_ : List ℕ). part (from + 8) (n * slotSize) room) (to + 8) (n * slotSize) room b
-    (λ _. bytes-part (from + 8) (n * slotSize) room b)
+    bytes-onPart (λ (_ : List ℕ). part (from + headSize) (n * slotSize) room) (to + headSize) (n * slotSize) room b
+    (λ _. bytes-part (from + headSize) (n * slotSize) room b)
 
 next-byte : (d c : ℕ) → d < 256 → nextRow d c < 256
 unfolding nextRow
@@ -148,14 +145,14 @@ bytes-advanced room b =
     let n = slots room in
     let to = nextRow (depth room) (current room) in
     let c = copied n (rowAt n (current room)) (rowAt n to) room in
-    bytes-onPart (agedRow n) (rowAt n to) (rowSize n) (set c 2 to)
-    (bytes-set c 2 to (bytes-copied n (rowAt n (current room)) (rowAt n to) room b) (next-byte (depth room) (current room) (b 0)))
-    (λ d. bytes-agedRow n (part (rowAt n to) (rowSize n) (set c 2 to)) d)
+    bytes-onPart (agedRow n) (rowAt n to) (rowSize n) (set c currentAt to)
+    (bytes-set c currentAt to (bytes-copied n (rowAt n (current room)) (rowAt n to) room b) (next-byte (depth room) (current room) (b depthAt)))
+    (λ d. bytes-agedRow n (part (rowAt n to) (rowSize n) (set c currentAt to)) d)
 
 bytes-markedAt : (w t : ℕ) (row : List ℕ) → w < 65536 → t < 4294967296 → Bytes row → Bytes (markedAt w t row)
 unfolding markedAt
 bytes-markedAt w t row h g b =
-    bytes-put32 (put16 (set row 0 1) 1 w) 3 t (bytes-put16 (set row 0 1) 1 w (bytes-set row 0 1 b (omega arith)) h) g
+    bytes-put32 (put16 (set row markAt 1) weekAt w) timeAt t (bytes-put16 (set row markAt 1) weekAt w (bytes-set row markAt 1 b (omega arith)) h) g
 
 bytes-settled : (w t : ℕ) (room : List ℕ) → w < 65536 → t < 4294967296 → Bytes room → Bytes (settled w t room)
 unfolding settled currentMarked
@@ -170,7 +167,9 @@ bytes-settled w t room h g b = go (moves w t room)
     reached true = bytes-advanced room b
     reached false = b
 
-    go : (c : Bool) → Bytes (onPart (markedAt w t) (rowAt (slots (cond c (advanced room) room)) (current (cond c (advanced room) room))) (rowSize (slots (cond c (advanced room) room))) (cond c (advanced room) room))
+    go : (c : Bool)
+        → let x = cond c (advanced room) room in
+        Bytes (onPart (markedAt w t) (rowAt (slots x) (current x)) (rowSize (slots x)) x)
     go c = mark-it (cond c (advanced room) room) (reached c)
 
 bytes-fedFamily : (f : Family) (n sat band : ℕ) (word row : List ℕ) → sat < 256 → Bytes row → Bytes (fedFamily f n sat band word row)
@@ -185,7 +184,7 @@ bytes-fedRow n sat band word row h b =
     bytes-fedFamily Timing n sat band word (fedFamily CED n sat band word row) h (bytes-fedFamily CED n sat band word row h b)
 
 bytes-fed : (w t sat band : ℕ) (word room : List ℕ) → w < 65536 → t < 4294967296 → sat < 256 → Bytes room → Bytes (fed w t sat band word room)
-unfolding fed
+unfolding fed fedCurrent
 bytes-fed w t sat band word room h g k b =
     let s = settled w t room in
     let n = slots s in
@@ -198,17 +197,17 @@ unfolding blankRow blankSlot
 bytes-blankRow n row b =
     bytes-onParts (λ (_ : List ℕ). blankRecord CED ++ blankRecord Timing) slotSize
     (λ _ _. bytes-append (blankRecord CED) (blankRecord Timing) (bytes-blank CED) (bytes-blank Timing))
-    n 8
-    (onPart (λ (_ : List ℕ). replicate 8 0) 0 8 row)
-    (bytes-onPart (λ (_ : List ℕ). replicate 8 0) 0 8 row b (λ _. bytes-replicate 8 0 (omega arith)))
+    n headSize
+    (onPart (λ (_ : List ℕ). replicate headSize 0) 0 headSize row)
+    (bytes-onPart (λ (_ : List ℕ). replicate headSize 0) 0 headSize row b (λ _. bytes-replicate headSize 0 (omega arith)))
 
 bytes-fresh : (d n : ℕ) (room : List ℕ) → d < 256 → n < 256 → Bytes room → Bytes (fresh d n room)
 unfolding fresh
 bytes-fresh d n room h g b =
-    bytes-onParts (blankRow n) (rowSize n) (λ row c. bytes-blankRow n row c) d 8
-    (onPart (λ (_ : List ℕ). header d n) 0 8 room)
-    (bytes-onPart (λ (_ : List ℕ). header d n) 0 8 room b
-    (λ _. bytes-cons d (n ∷ replicate 6 0) h (bytes-cons n (replicate 6 0) g (bytes-replicate 6 0 (omega arith)))))
+    bytes-onParts (blankRow n) (rowSize n) (λ row c. bytes-blankRow n row c) d headerSize
+    (onPart (λ (_ : List ℕ). header d n) 0 headerSize room)
+    (bytes-onPart (λ (_ : List ℕ). header d n) 0 headerSize room b
+    (λ _. bytes-cons d (n ∷ replicate (headerSize - currentAt) 0) h (bytes-cons n (replicate (headerSize - currentAt) 0) g (bytes-replicate (headerSize - currentAt) 0 (omega arith)))))
 
 -- ---- any call, and calls after each other
 pub call-bytes : (c : Call) (room : List ℕ) → WeekFits c → Bytes room → Bytes (roomAfter c room)

@@ -4,3 +4,4 @@ pub mod Rooms
 pub mod Stays
 pub mod BytesStay
 pub mod Untouched
+pub mod Slices

@@ -8,25 +8,27 @@ use native.Mathlib.Omega.{arith}
 use borrow.Author.Tests.{ne-eqb}
 use lib.ListN.{length, getD, replicate}
 use Rattle.paper.specs.Bits.{moved, changed}
-use Rattle.paper.specs.Record.{Family, CED, Timing, dataBytes, size, dataAt, satellite, count, dataOf, withCount, aged, blankRecord, recordBits}
-use Rattle.paper.specs.Word.{Owned, nothing, owns, owned, typeOf, taken, written, fedRecord}
+use Rattle.paper.specs.Record.{lastWeight, Family, CED, Timing, dataBytes, size, dataAt, satellite, count, dataOf, withCount, aged, blankRecord, recordBits}
+use Rattle.paper.specs.Word.{Owned, nothing, owns, owned, typeOf, taken, written, fedRecord, InBounds}
 use Rattle.paper.specs.Tag.{matches, credited}
 use Rattle.paper.proofs.Bits.{last-kept}
 use Rattle.paper.proofs.Parts.{length-part}
-use Rattle.paper.proofs.Views.{record-parts}
 use Rattle.paper.proofs.Lengths.{keeps-taken}
-use Rattle.paper.proofs.RecordViews.{last-byte, same-last, withCount-satellite, withCount-count, withCount-data, aged-satellite, aged-count, aged-data, taken-satellite, taken-data, InRecord, owned-inRecord, written-satellite, written-count, written-data, credited-satellite, credited-data, credited-count, blank-satellite, blank-count, blank-data}
+use Rattle.paper.proofs.RecordViews.{last-byte, same-last, withCount-satellite, withCount-count, withCount-data, aged-satellite, aged-count, aged-data, taken-satellite, taken-data}
+use Rattle.paper.proofs.RecordViews.{written-satellite, written-count, written-data, credited-satellite, credited-data, credited-count, blank-satellite, blank-count, blank-data}
 use Rattle.paper.proofs.StoreFacts.{RecordFacts}
+use Rattle.paper.proofs.WordTable.{owned-inBounds}
+use Rattle.paper.proofs.Views.{bits-and-bytes}
 
 -- same satellite, no count where there was none, and the bits past the data as they were
 pub record-stays : (f : Family) (most : ℕ) (x y : List ℕ) → satellite y ≡ satellite x → (count x ≡ 0 → count y ≡ 0)
-    → getD y (size f - 1) 0 % 8 ≡ getD x (size f - 1) 0 % 8 → RecordFacts f most x → RecordFacts f most y
+    → getD y (size f - 1) 0 % lastWeight ≡ getD x (size f - 1) 0 % lastWeight → RecordFacts f most x → RecordFacts f most y
 record-stays f most x y s c b R =
     record { known = rw s (R .known); none = λ z. c (R .none (sym s ∙ z)); clear = b ∙ R .clear }
 
 -- where the data stay, so do the bits past them
-same-end : (f : Family) (x y : List ℕ) → dataOf f y ≡ dataOf f x → getD y (size f - 1) 0 % 8 ≡ getD x (size f - 1) 0 % 8
-same-end f x y e = ap (λ (n : ℕ). n % 8) (same-last f y x e)
+same-end : (f : Family) (x y : List ℕ) → dataOf f y ≡ dataOf f x → getD y (size f - 1) 0 % lastWeight ≡ getD x (size f - 1) 0 % lastWeight
+same-end f x y e = ap (λ (n : ℕ). n % lastWeight) (same-last f y x e)
 
 -- a row may hold more satellites
 pub record-more : (f : Family) (most more : ℕ) (rec : List ℕ) → most ≤ more → RecordFacts f most rec → RecordFacts f more rec
@@ -37,10 +39,10 @@ blank-record f most =
     record {
       known = rw (blank-satellite f) (omega arith);
       none = λ z. blank-count f;
-      clear = ap (λ (n : ℕ). n % 8) (last-byte f (blankRecord f) ∙ ap (λ (d : List ℕ). getD d (dataBytes f - 1) 0) (blank-data f)) ∙ zero-end f;
+      clear = ap (λ (n : ℕ). n % lastWeight) (last-byte f (blankRecord f) ∙ ap (λ (d : List ℕ). getD d (dataBytes f - 1) 0) (blank-data f)) ∙ zero-end f;
     }
   where
-    zero-end : (f : Family) → getD (replicate (dataBytes f) 0) (dataBytes f - 1) 0 % 8 ≡ 0
+    zero-end : (f : Family) → getD (replicate (dataBytes f) 0) (dataBytes f - 1) 0 % lastWeight ≡ 0
     zero-end CED = refl
     zero-end Timing = refl
 
@@ -52,7 +54,7 @@ aged-stays f most rec l R =
 
 pub uncounted-stays : (f : Family) (most : ℕ) (rec : List ℕ) → length rec ≡ size f → RecordFacts f most rec → RecordFacts f most (withCount 0 rec)
 uncounted-stays f most rec l R =
-    record-stays f most rec (withCount 0 rec) (withCount-satellite 0 rec) (λ z. withCount-count 0 rec (omega (arith, record-parts f)))
+    record-stays f most rec (withCount 0 rec) (withCount-satellite 0 rec) (λ z. withCount-count 0 rec (omega arith))
     (same-end f rec (withCount 0 rec) (withCount-data 0 rec f))
     R
 
@@ -66,16 +68,16 @@ taken-stays f most sat rec l one known R =
     }
 
 -- what a word owns lies within the record's bits
-pub written-stays : (f : Family) (most : ℕ) (o : Owned) (word rec : List ℕ) → length rec ≡ size f → InRecord f o → RecordFacts f most rec → RecordFacts f most (written f o word rec)
+pub written-stays : (f : Family) (most : ℕ) (o : Owned) (word rec : List ℕ) → length rec ≡ size f → InBounds f o → RecordFacts f most rec → RecordFacts f most (written f o word rec)
 unfolding written
 written-stays f most nothing word rec l h R = R
 written-stays f most (owns to from n age) word rec l h R =
     record-stays f most rec (written f (owns to from n age) word rec) (written-satellite f to from n age word rec l)
     (λ z. written-count f to from n age word rec l ∙ zero-still (changed (dataOf f rec) to word from n) z)
-    (ap (λ (k : ℕ). k % 8) (last-byte f (written f (owns to from n age) word rec))
-    ∙ ap (λ (d : List ℕ). getD d (dataBytes f - 1) 0 % 8) (written-data f to from n age word rec l (h .1))
+    (ap (λ (k : ℕ). k % lastWeight) (last-byte f (written f (owns to from n age) word rec))
+    ∙ ap (λ (d : List ℕ). getD d (dataBytes f - 1) 0 % lastWeight) (written-data f to from n age word rec l (h .2))
     ∙ end
-    ∙ ap (λ (k : ℕ). k % 8) (sym (last-byte f rec)))
+    ∙ ap (λ (k : ℕ). k % lastWeight) (sym (last-byte f rec)))
     R
   where
     zero-still : (b : Bool) → count rec ≡ 0 → cond b 0 (count rec) ≡ 0
@@ -83,24 +85,20 @@ written-stays f most (owns to from n age) word rec l h R =
     zero-still false z = z
 
     length-data : length (dataOf f rec) ≡ dataBytes f
-    length-data = length-part (dataAt f) (dataBytes f) rec (omega (arith, record-parts f))
+    length-data = length-part (dataAt f) (dataBytes f) rec (omega arith)
 
     some : (f : Family) → 1 ≤ dataBytes f
     some CED = omega arith
     some Timing = omega arith
 
-    bits : (f : Family) → recordBits f ≡ 8 * dataBytes f - 3
-    bits CED = refl
-    bits Timing = refl
-
-    end : getD (moved (dataOf f rec) to word from n) (dataBytes f - 1) 0 % 8 ≡ getD (dataOf f rec) (dataBytes f - 1) 0 % 8
-    end = rw length-data at (last-kept (dataOf f rec) to word from n (omega (arith, length-data, some f)) (omega (arith, length-data, bits f, h .0)))
+    end : getD (moved (dataOf f rec) to word from n) (dataBytes f - 1) 0 % lastWeight ≡ getD (dataOf f rec) (dataBytes f - 1) 0 % lastWeight
+    end = rw length-data at (last-kept (dataOf f rec) to word from n (omega (arith, length-data, some f)) (omega (arith, length-data, bits-and-bytes f, h .0)))
 
 pub fedRecord-stays : (f : Family) (most sat band : ℕ) (word rec : List ℕ) → length rec ≡ size f → 1 ≤ sat → sat ≤ most
     → RecordFacts f most rec → RecordFacts f most (fedRecord f sat band word rec)
 unfolding fedRecord
 fedRecord-stays f most sat band word rec l one known R =
-    written-stays f most (owned f (typeOf word) band) word (taken f sat rec) (keeps-taken f sat rec l) (owned-inRecord f (typeOf word) band)
+    written-stays f most (owned f (typeOf word) band) word (taken f sat rec) (keeps-taken f sat rec l) (owned-inBounds f (typeOf word) band)
     (taken-stays f most sat rec l one known R)
 
 unmatched : (f : Family) (sat : ℕ) (bits rec : List ℕ) → satellite rec ≢ sat → matches f sat bits rec ≡ false
@@ -115,7 +113,7 @@ credited-stays f most sat bits l rec h one R =
       known = rw (credited-satellite f sat bits l rec) (R .known);
       none = λ z.
           let free : satellite rec ≡ 0 = sym (credited-satellite f sat bits l rec) ∙ z in
-          credited-count f sat bits l rec (omega (arith, record-parts f)) ∙ rw (no-match free) (R .none free);
+          credited-count f sat bits l rec (omega arith) ∙ rw (no-match free) (R .none free);
       clear = same-end f rec (credited f sat bits l rec) (credited-data f sat bits l rec) ∙ R .clear;
     }
   where

@@ -3,7 +3,7 @@ use mathlib.Core.Bool.{Bool, true, false, cond, _&&_, not}
 use mathlib.Core.List.{List}
 use mathlib.Core.Logic.{_≢_}
 use mathlib.Core.Path.{_≡_, refl, sym, ap, _∙_, subst}
-use Prim.Native.Nat.{ℕ, _%_, _<_, _≤_}
+use Prim.Native.Nat.{ℕ, _%_, _<_, _≤_, _+_}
 use native.Mathlib.Omega.{arith}
 use native.Mathlib.Decide.{ℕ-discrete}
 use lib.Dec.{eqb, leb, ltb}
@@ -11,9 +11,9 @@ use borrow.Author.Tests.{ltb-true, leb-true, eqb-true}
 use lib.ListN.{length, getD}
 use Rattle.paper.specs.Big.{be16, be32}
 use Rattle.paper.specs.Record.{Family, satellite, dataOf, aged}
-use Rattle.paper.specs.Room.{rowSize, roomSize, depth, slots, current, rowOf, recordOf}
+use Rattle.paper.specs.Room.{rowSize, roomSize, depth, slots, current, rowOf, recordOf, zerosAt, headerSize, currentAt, slotsAt, headSize, markAt, depthAt, spareAt}
 use Rattle.paper.specs.Word.{fedRecord}
-use Rattle.paper.specs.Store.{sizesAllowed, headerZeros, mostIn, rowAllowed, isStore}
+use Rattle.paper.specs.Store.{InRange, sizesAllowed, headerZeros, mostIn, rowAllowed, isStore}
 use Rattle.paper.specs.Fresh.{fresh}
 use Rattle.paper.specs.Feed.{moves, markedAt, chosen, fed}
 use Rattle.paper.specs.Tag.{tagged, familyOf, kindKnown, statusKnown, copAllowed, lengthAllowed, thirtyBefore, firstSlot, candidateRow, candidateSlot, candidateRecord, hasCandidate}
@@ -21,22 +21,20 @@ use Rattle.paper.specs.Reset.{reset}
 use Rattle.paper.specs.Satellite.{mostSatellites, isSatellite}
 use Rattle.paper.specs.Number.{number, unless}
 use Rattle.paper.specs.Answer.{roomFor, freshNumber, freshRoom, feedNumber, feedRoom, untilCandidate, tagNumber, tagRoom, resetNumber, resetRoom}
-use Rattle.paper.specs.Time.{isTime, isStart, startOf, weekSeconds}
+use Rattle.paper.specs.Time.{isTime, isStart, startOf, weekSeconds, lastStart, subframeSeconds}
 use Rattle.paper.proofs.First.{first-holds}
-use Rattle.paper.proofs.Views.{Facts, length-rowOf, other, length-record}
+use Rattle.paper.proofs.Views.{length-rowOf, other, length-record}
 use Rattle.paper.proofs.Lengths.{keeps-markedAt}
-use Rattle.paper.proofs.WordViews.{markedAt-spare, markedAt-mark, markedAt-time, rowSettled, rowTaken, rowSettled-lt, rowTaken-length, rowTaken-record, rowTaken-head, fedRow-head, fed-header, fed-facts, fed-here, fed-record, fed-there}
-use Rattle.paper.proofs.CallViews.{fresh-length, fresh-header, fresh-depth, fresh-slots, fresh-current, fresh-head, fresh-record, tagged-header, tagged-facts, tagged-head, tagged-record, tagged-other, reset-header, reset-facts, reset-head, reset-record}
+use Rattle.paper.proofs.WordViews.{markedAt-spare, markedAt-mark, markedAt-time, rowSettled, rowTaken, rowSettled-lt, rowTaken-length, rowTaken-record}
+use Rattle.paper.proofs.WordViews.{rowTaken-head, fedRow-head, fed-header, fed-facts, fed-here, fed-record, fed-there}
+use Rattle.paper.proofs.CallViews.{fresh-length, fresh-header, fresh-depth, fresh-slots, fresh-current, fresh-head, fresh-record, tagged-header}
+use Rattle.paper.proofs.CallViews.{tagged-facts, tagged-head, tagged-record, tagged-other, reset-header, reset-facts, reset-head, reset-record}
 use Rattle.paper.proofs.StoreFacts.{both-true, sizes-facts, store-facts, store-zeros, store-row, facts-store, zeros-same, RecordFacts, RowFacts, mostIn-most, row-facts, row-allowed, store-record}
 use Rattle.stays.proofs.Records.{record-more, aged-stays, uncounted-stays, fedRecord-stays, credited-stays}
 use Rattle.stays.proofs.Rows.{either-family, SameHead, same-time, row-stays, blank-row, marked-row}
+use Rattle.paper.proofs.Order.{unless-zero}
 
 -- ---- refusals
--- a number 0 passed its first test, and what comes later is 0
-pub unless-zero : (b : Bool) (k later : ℕ) → k ≢ 0 → unless b k later ≡ 0 → (b ≡ true) × (later ≡ 0)
-unless-zero true k later h e = (refl, e)
-unless-zero false k later h e = absurd (h e)
-
 -- the room of a call: the new one after number 0, else the old one
 pub room-for : (P : List ℕ → Type 0) (k : ℕ) (after room : List ℕ) → (k ≡ 0 → P after) → P room → P (roomFor k after room)
 room-for P k after room a r = go (eqb k 0) refl
@@ -54,15 +52,15 @@ satellite-known sat e =
 pub fresh-allowed : (d n : ℕ) (room : List ℕ) → freshNumber d n room ≡ 0 → (sizesAllowed d n ≡ true) × (roomSize d n ≤ length room)
 unfolding freshNumber
 fresh-allowed d n room e =
-    let a = unless-zero (sizesAllowed d n) 1 (unless (leb (roomSize d n) (length room)) 2 0) (λ z. omega (arith, z)) e in
-    let b = unless-zero (leb (roomSize d n) (length room)) 2 0 (λ z. omega (arith, z)) (a .1) in
+    let a = unless-zero (sizesAllowed d n) 1 (unless (leb (roomSize d n) (length room)) 2 0) (omega arith) e in
+    let b = unless-zero (leb (roomSize d n) (length room)) 2 0 (omega arith) (a .1) in
     (a .0, leb-true (roomSize d n) (length room) (b .0))
 
 module _ (d n : ℕ) (room : List ℕ) (made : freshNumber d n room ≡ 0) where
   fresh-fits : roomSize d n ≤ length room
   fresh-fits = fresh-allowed d n room made .1
 
-  pub fresh-facts : Facts (fresh d n room)
+  pub fresh-facts : InRange (fresh d n room)
   fresh-facts =
       let s = sizes-facts d n (fresh-allowed d n room made .0) in
       let ed = fresh-depth d n room fresh-fits in
@@ -70,10 +68,10 @@ module _ (d n : ℕ) (room : List ℕ) (made : freshNumber d n room ≡ 0) where
       let el = fresh-length d n room fresh-fits in
       record {
         long = omega (arith, el, fresh-fits);
-        rows1 = rw ed (s .0);
-        rows16 = rw ed (s .1);
-        slots1 = rw en (s .2);
-        slots36 = rw en (s .3);
+        someRow = rw ed (s .0);
+        rowsWithin = rw ed (s .1);
+        someSlot = rw en (s .2);
+        slotsWithin = rw en (s .3);
         inRing = rw (fresh-current d n room fresh-fits, ed) (s .0);
         fits = rw (ed, en, el) fresh-fits;
       }
@@ -82,11 +80,11 @@ module _ (d n : ℕ) (room : List ℕ) (made : freshNumber d n room ≡ 0) where
   unfolding headerZeros be32 be16
   fresh-zeros =
       rw (
-        fresh-header d n room fresh-fits 3 (omega arith),
-        fresh-header d n room fresh-fits 4 (omega arith),
-        fresh-header d n room fresh-fits 5 (omega arith),
-        fresh-header d n room fresh-fits 6 (omega arith),
-        fresh-header d n room fresh-fits 7 (omega arith),
+        fresh-header d n room fresh-fits zerosAt (omega arith),
+        fresh-header d n room fresh-fits (zerosAt + 1) (omega arith),
+        fresh-header d n room fresh-fits (zerosAt + 2) (omega arith),
+        fresh-header d n room fresh-fits (zerosAt + 3) (omega arith),
+        fresh-header d n room fresh-fits (zerosAt + 4) (omega arith),
       )
 
   fresh-row-allowed : (r : ℕ) → r < depth (fresh d n room) → rowAllowed (slots (fresh d n room)) (rowOf r (fresh d n room)) ≡ true
@@ -111,22 +109,22 @@ fresh-stays d n room s =
     room-for (λ (x : List ℕ). isStore x ≡ true) (freshNumber d n room) (fresh d n room) room (λ e. fresh-store d n room e) s
 
 -- ---- a change that leaves the header, and every row allowed
-store-still : (x y : List ℕ) → isStore x ≡ true → Facts y → ((i : ℕ) → i < 8 → i ≢ 2 → getD y i 0 ≡ getD x i 0)
+store-still : (x y : List ℕ) → isStore x ≡ true → InRange y → ((i : ℕ) → i < headerSize → i ≢ currentAt → getD y i 0 ≡ getD x i 0)
     → ((r : ℕ) → r < depth x → RowFacts (slots x) (rowOf r y)) → isStore y ≡ true
 store-still x y s F e rows =
     facts-store y F (zeros-same x y e (store-zeros x s))
     (λ r h. row-allowed (slots y) (rowOf r y)
-    (subst (λ (n : ℕ). RowFacts n (rowOf r y)) (sym (e 1 (omega arith) (omega arith))) (rows r (rw (e 0 (omega arith) (omega arith)) at h))))
+    (subst (λ (n : ℕ). RowFacts n (rowOf r y)) (sym (e slotsAt (omega arith) (omega arith))) (rows r (rw (e depthAt (omega arith) (omega arith)) at h))))
 
 row-was : (x : List ℕ) → isStore x ≡ true → (r : ℕ) → r < depth x → RowFacts (slots x) (rowOf r x)
 row-was x s r h = row-facts (slots x) (rowOf r x) (store-row x s r h)
 
 -- ---- a word
-start-fits : (t : ℕ) → t < weekSeconds → (startOf t ≤ 604770) × (startOf t % 30 ≡ 0)
+start-fits : (t : ℕ) → t < weekSeconds → (startOf t ≤ lastStart) × (startOf t % subframeSeconds ≡ 0)
 start-fits t h = (omega arith, omega arith)
 
-module _ (w t sat band : ℕ) (word room : List ℕ) (s : isStore room ≡ true) (one : 1 ≤ sat) (known : sat ≤ mostSatellites) (h : t ≤ 604770) (g : t % 30 ≡ 0) where
-  F : Facts room
+module _ (w t sat band : ℕ) (word room : List ℕ) (s : isStore room ≡ true) (one : 1 ≤ sat) (known : sat ≤ mostSatellites) (h : t ≤ lastStart) (g : t % subframeSeconds ≡ 0) where
+  F : InRange room
   F = store-facts room s
 
   -- a record of the row that is current then, before the word
@@ -158,23 +156,23 @@ module _ (w t sat band : ℕ) (word room : List ℕ) (s : isStore room ≡ true)
           (taken-allowed f i b)
       go false = taken-allowed f i b
 
-  long-taken : 8 ≤ length (rowTaken w t room)
+  long-taken : headSize ≤ length (rowTaken w t room)
   long-taken = omega (arith, rowTaken-length w t room F)
 
   -- the head of the current row is that of the row marked
   fed-head : SameHead (markedAt w t (rowTaken w t room)) (rowOf (rowSettled w t room) (fed w t sat band word room))
   fed-head k b =
       ap (λ (row : List ℕ). getD row k 0) (fed-here w t sat band word room F)
-      ∙ fedRow-head (slots room) sat band word (markedAt w t (rowTaken w t room)) (F .slots1)
+      ∙ fedRow-head (slots room) sat band word (markedAt w t (rowTaken w t room)) (F .someSlot)
       (keeps-markedAt (rowSize (slots room)) w t (rowTaken w t room) (rowTaken-length w t room F)) k b
 
   fed-current-row : RowFacts (slots room) (rowOf (rowSettled w t room) (fed w t sat band word room))
   fed-current-row =
       marked-row (slots room) t (rowOf (rowSettled w t room) (fed w t sat band word room))
-      (fed-head 0 (omega arith) ∙ markedAt-mark w t (rowTaken w t room) long-taken)
-      (fed-head 7 (omega arith)
+      (fed-head markAt (omega arith) ∙ markedAt-mark w t (rowTaken w t room) long-taken)
+      (fed-head spareAt (omega arith)
       ∙ markedAt-spare w t (rowTaken w t room)
-      ∙ rowTaken-head w t room F 7 (omega arith)
+      ∙ rowTaken-head w t room F spareAt (omega arith)
       ∙ row-was room s (rowSettled w t room) (rowSettled-lt w t room F) .spare0)
       (same-time (markedAt w t (rowTaken w t room)) (rowOf (rowSettled w t room) (fed w t sat band word room)) fed-head
       ∙ markedAt-time w t (rowTaken w t room) long-taken)
@@ -194,9 +192,9 @@ module _ (w t sat band : ℕ) (word room : List ℕ) (s : isStore room ≡ true)
 pub feed-allowed : (word : List ℕ) (sat t band : ℕ) (room : List ℕ) → feedNumber word sat t band room ≡ 0 → (isSatellite sat ≡ true) × (isTime t ≡ true)
 unfolding feedNumber
 feed-allowed word sat t band room e =
-    let a = unless-zero (isStore room) 3 _ (λ z. omega (arith, z)) e in
-    let b = unless-zero (isSatellite sat) 4 _ (λ z. omega (arith, z)) (a .1) in
-    let c = unless-zero (isTime t) 5 _ (λ z. omega (arith, z)) (b .1) in
+    let a = unless-zero (isStore room) 3 _ (omega arith) e in
+    let b = unless-zero (isSatellite sat) 4 _ (omega arith) (a .1) in
+    let c = unless-zero (isTime t) 5 _ (omega arith) (b .1) in
     (b .0, c .0)
 
 -- a store stays one after any word
@@ -245,23 +243,23 @@ module _ (f : Family) (candidate : List ℕ) (l : ℕ) (room : List ℕ) (s : is
       tagged-row
 
 -- what a tag asks for, where its number is 0 or comes from what is asked later
-candidate-allowed : (allowed known : Bool) (sat kind cop w t : ℕ) (room : List ℕ) (later : ℕ)
+pub candidate-allowed : (allowed known : Bool) (sat kind cop w t : ℕ) (room : List ℕ) (later : ℕ)
     → untilCandidate allowed known sat kind cop w t room later ≡ 0
     → (isSatellite sat ≡ true) × (hasCandidate (familyOf kind) sat cop w t room ≡ true)
 unfolding untilCandidate
 candidate-allowed allowed known sat kind cop w t room later e =
-    let a = unless-zero (isStore room) 3 _ (λ z. omega (arith, z)) e in
-    let b = unless-zero (isSatellite sat) 4 _ (λ z. omega (arith, z)) (a .1) in
-    let c = unless-zero (isTime t) 5 _ (λ z. omega (arith, z)) (b .1) in
-    let d = unless-zero (isStart t) 6 _ (λ z. omega (arith, z)) (c .1) in
-    let f = unless-zero allowed 8 _ (λ z. omega (arith, z)) (d .1) in
-    let g = unless-zero known 9 _ (λ z. omega (arith, z)) (f .1) in
-    let h = unless-zero (eqb (number (thirtyBefore w t)) 0) 7 _ (λ z. omega (arith, z)) (g .1) in
-    let i = unless-zero (not (eqb cop 0)) 16 _ (λ z. omega (arith, z)) (h .1) in
-    let j = unless-zero (hasCandidate (familyOf kind) sat cop w t room) 10 later (λ z. omega (arith, z)) (i .1) in
+    let a = unless-zero (isStore room) 3 _ (omega arith) e in
+    let b = unless-zero (isSatellite sat) 4 _ (omega arith) (a .1) in
+    let c = unless-zero (isTime t) 5 _ (omega arith) (b .1) in
+    let d = unless-zero (isStart t) 6 _ (omega arith) (c .1) in
+    let f = unless-zero allowed 8 _ (omega arith) (d .1) in
+    let g = unless-zero known 9 _ (omega arith) (f .1) in
+    let h = unless-zero (eqb (number (thirtyBefore w t)) 0) 7 _ (omega arith) (g .1) in
+    let i = unless-zero (not (eqb cop 0)) 16 _ (omega arith) (h .1) in
+    let j = unless-zero (hasCandidate (familyOf kind) sat cop w t room) 10 later (omega arith) (i .1) in
     (b .0, j .0)
 
-tag-allowed : (sat kind cop l status w t : ℕ) (given : List ℕ) (verdict : Bool) (room : List ℕ) → tagNumber sat kind cop l status w t given verdict room ≡ 0
+pub tag-allowed : (sat kind cop l status w t : ℕ) (given : List ℕ) (verdict : Bool) (room : List ℕ) → tagNumber sat kind cop l status w t given verdict room ≡ 0
     → (isSatellite sat ≡ true) × (hasCandidate (familyOf kind) sat cop w t room ≡ true)
 unfolding tagNumber
 tag-allowed sat kind cop l status w t given verdict room e =

@@ -6,8 +6,8 @@ use Prim.Native.Nat.{ℕ, _≤_}
 use native.Mathlib.Omega.{arith}
 use lib.ListN.{length, drop}
 use Rattle.paper.specs.Record.{Family}
-use Rattle.paper.specs.Room.{roomSize, depth, slots}
-use Rattle.paper.specs.Store.{isStore}
+use Rattle.paper.specs.Room.{roomSize, depth, slots, depthAt, slotsAt}
+use Rattle.paper.specs.Store.{InRange, isStore}
 use Rattle.paper.specs.Fresh.{fresh}
 use Rattle.paper.specs.Feed.{fed}
 use Rattle.paper.specs.Tag.{tagged, familyOf, candidateRecord}
@@ -15,25 +15,25 @@ use Rattle.paper.specs.Reset.{reset}
 use Rattle.paper.specs.Answer.{freshNumber, freshRoom, feedNumber, feedRoom, untilCandidate, tagNumber, tagRoom, resetNumber, resetRoom}
 use Rattle.paper.specs.Call.{Call, freshCall, feedCall, tagCall, candidateCall, askCall, resetCall, roomAfter, run}
 use Rattle.paper.specs.Time.{startOf}
-use Rattle.paper.proofs.Views.{Facts}
 use Rattle.paper.proofs.WordViews.{fed-length, fed-header, fed-past}
 use Rattle.paper.proofs.CallViews.{fresh-length, fresh-depth, fresh-slots, fresh-past, tagged-length, tagged-header, tagged-past, reset-length, reset-header, reset-past}
 use Rattle.paper.proofs.StoreFacts.{store-facts}
-use Rattle.stays.proofs.Rooms.{unless-zero, room-for, fresh-allowed}
+use Rattle.paper.proofs.Order.{unless-zero}
+use Rattle.stays.proofs.Rooms.{room-for, fresh-allowed}
 use Rattle.stays.specs.Lent.{reach, MakesWithin, MakeWithin}
 
 -- what a number 0 says first: the room is a store
-word-lent : (word : List ℕ) (sat t band : ℕ) (room : List ℕ) → feedNumber word sat t band room ≡ 0 → Facts room
+word-lent : (word : List ℕ) (sat t band : ℕ) (room : List ℕ) → feedNumber word sat t band room ≡ 0 → InRange room
 unfolding feedNumber
-word-lent word sat t band room e = store-facts room (unless-zero (isStore room) 3 _ (λ z. omega (arith, z)) e .0)
+word-lent word sat t band room e = store-facts room (unless-zero (isStore room) 3 _ (omega arith) e .0)
 
-tag-lent : (sat kind cop l status w t : ℕ) (given : List ℕ) (verdict : Bool) (room : List ℕ) → tagNumber sat kind cop l status w t given verdict room ≡ 0 → Facts room
+tag-lent : (sat kind cop l status w t : ℕ) (given : List ℕ) (verdict : Bool) (room : List ℕ) → tagNumber sat kind cop l status w t given verdict room ≡ 0 → InRange room
 unfolding tagNumber untilCandidate
-tag-lent sat kind cop l status w t given verdict room e = store-facts room (unless-zero (isStore room) 3 _ (λ z. omega (arith, z)) e .0)
+tag-lent sat kind cop l status w t given verdict room e = store-facts room (unless-zero (isStore room) 3 _ (omega arith) e .0)
 
-reset-lent : (room : List ℕ) → resetNumber room ≡ 0 → Facts room
+reset-lent : (room : List ℕ) → resetNumber room ≡ 0 → InRange room
 unfolding resetNumber
-reset-lent room e = store-facts room (unless-zero (isStore room) 3 0 (λ z. omega (arith, z)) e .0)
+reset-lent room e = store-facts room (unless-zero (isStore room) 3 0 (omega arith) e .0)
 
 -- nothing past the reach of a call changes
 pub call-untouched : (c : Call) (room : List ℕ) (k : ℕ) → reach c room ≤ k → drop k (roomAfter c room) ≡ drop k room
@@ -103,8 +103,8 @@ call-within (feedCall word sat w t band) room k m h =
     (λ e.
     let F = word-lent word sat t band room e in
     same-end k room (fed w (startOf t) sat band word room)
-    (fed-header w (startOf t) sat band word room F 0 (omega arith) (omega arith))
-    (fed-header w (startOf t) sat band word room F 1 (omega arith) (omega arith))
+    (fed-header w (startOf t) sat band word room F depthAt (omega arith) (omega arith))
+    (fed-header w (startOf t) sat band word room F slotsAt (omega arith) (omega arith))
     h)
     h
 call-within (tagCall sat kind cop l status w t given verdict) room k m h =
@@ -113,7 +113,7 @@ call-within (tagCall sat kind cop l status w t given verdict) room k m h =
     room-for (Within k) (tagNumber sat kind cop l status w t given verdict room) (tagged f candidate l room) room
     (λ e.
     let F = tag-lent sat kind cop l status w t given verdict room e in
-    same-end k room (tagged f candidate l room) (tagged-header f candidate l room F 0 (omega arith)) (tagged-header f candidate l room F 1 (omega arith)) h)
+    same-end k room (tagged f candidate l room) (tagged-header f candidate l room F depthAt (omega arith)) (tagged-header f candidate l room F slotsAt (omega arith)) h)
     h
 call-within (candidateCall sat kind cop w t) room k m h = h
 call-within (askCall f sat) room k m h = h
@@ -121,7 +121,7 @@ call-within resetCall room k m h =
     room-for (Within k) (resetNumber room) (reset room) room
     (λ e.
     let F = reset-lent room e in
-    same-end k room (reset room) (reset-header room F 0 (omega arith)) (reset-header room F 1 (omega arith)) h)
+    same-end k room (reset room) (reset-header room F depthAt (omega arith)) (reset-header room F slotsAt (omega arith)) h)
     h
 
 reach-within : (c : Call) (room : List ℕ) (k : ℕ) → MakesWithin k c → Within k room → reach c room ≤ k

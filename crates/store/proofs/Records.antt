@@ -9,7 +9,7 @@ use borrow.Author.Tests.{le-leb, eq-eqb, ne-eqb, leb-true, eqb-true, eqb-false}
 use lib.Dec.{leb, eqb}
 use lib.ListN.{length, getD}
 use Rattle.paper.proofs.StoreFacts.{both-true}
-use Rattle.paper.specs.Record.{Family, size, satellite, count}
+use Rattle.paper.specs.Record.{Family, lastWeight, size, satellite, count}
 use Rattle.paper.specs.Store.{satelliteAllowed, countHasSatellite, noBitPast, recordAllowed}
 
 module _ (most : ℕ) (rec : List ℕ) where
@@ -32,7 +32,7 @@ module _ (most : ℕ) (rec : List ℕ) where
       record { allowed = simp (le-leb (satellite rec) most (omega arith)); counted = simp (eq-eqb _ _ s, eq-eqb _ _ c) }
 
   -- with the last byte, all that is asked of it
-  pub held-last : Held → (f : Family) → size f ≡ length rec → eqb (getD rec (length rec - 1) 0 % 8) 0 ≡ recordAllowed f most rec
+  pub held-last : Held → (f : Family) → size f ≡ length rec → eqb (getD rec (length rec - 1) 0 % lastWeight) 0 ≡ recordAllowed f most rec
   unfolding recordAllowed noBitPast
   held-last h f e = simp (h .allowed, h .counted, sym e)
 

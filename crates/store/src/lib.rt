@@ -7,39 +7,59 @@ ghost use Prim.Native.Nat.{_+_, _*_, _≤_, _<_};
 ghost use lib.Dec.{leb};
 ghost use lib.ListN.{length};
 ghost use Rattle.paper.specs.Parts.{allParts};
-ghost use Rattle.paper.specs.Record.{Family, size, satellite, count};
-ghost use Rattle.paper.specs.Room.{slotSize, rowSize, roomSize};
+ghost use Rattle.paper.specs.Record.{Family, agesAt, size, satellite, count};
+ghost use Rattle.paper.specs.Room.{headerSize, headSize, slotSize, rowSize, roomSize};
 ghost use Rattle.store.specs.Slot.{isEmpty, isShared, isPlain};
 ghost use Rattle.paper.specs.Store.{headerInRange, headerZeros, recordAllowed, slotAllowed, markAllowed, subframeAllowed, blankAllowed, rowAllowed, isStore};
+use gst::LAST_START;
+use gst::SUBFRAME_SECONDS;
+use layout::CURRENT_AT;
+use layout::DEPTH_AT;
 use layout::HEADER;
-use layout::MOST_SATELLITES;
+use layout::MARK_AT;
+use layout::MARKED;
 use layout::ROW_HEAD;
 use layout::SLOT;
+use layout::SLOTS_AT;
+use layout::SPARE_AT;
+use layout::TIME_AT;
 use layout::TIMING_AT;
+use layout::WEEK_AT;
+use layout::ZEROS_AT;
+use records::COUNT_AT;
+use records::LAST_WEIGHT;
+use records::SATELLITE_AT;
+use svn::MOST_SATELLITES;
 
-// "a multiple of 30 up to 604770"
-const SUBFRAME_SECONDS: u32 = 30;
+// The first of the header's zeros, and behind it four more.
+const LAST_ZEROS_AT: usize = ZEROS_AT + 1;
 
-const LAST_SUBFRAME: u32 = 604770;
+// The satellite of the timing record, as a byte of the slot.
+const TIMING_SATELLITE: usize = TIMING_AT + SATELLITE_AT;
+
+// The last bytes of the two records of a slot.
+const CED_LAST: usize = TIMING_AT - 1;
+
+const TIMING_LAST: usize = SLOT - 1;
 
 fn header_in_range(room: &[u8]) -> bool
-    requires { ⌜ 8 ≤ length (now room) ⌝ }
+    requires { ⌜ headerSize ≤ length (now room) ⌝ }
     ensures { λ r. ⌜ r ≡ headerInRange (now (room .entry)) ⌝ }
 {
-    if !limits::sizes_allowed(room[0], room[1]) {
+    if !limits::sizes_allowed(room[DEPTH_AT], room[SLOTS_AT]) {
         return false;
     }
-    room[2] < room[0]
+    room[CURRENT_AT] < room[DEPTH_AT]
 }
 
 fn header_zeros(room: &[u8]) -> bool
-    requires { ⌜ 8 ≤ length (now room) ⌝ }
+    requires { ⌜ headerSize ≤ length (now room) ⌝ }
     ensures { λ r. ⌜ r ≡ headerZeros (now (room .entry)) ⌝ }
 {
-    if room[3] != 0 {
+    if room[ZEROS_AT] != 0 {
         return false;
     }
-    numbers::read32(room, 4) == 0
+    numbers::read32(room, LAST_ZEROS_AT) == 0
 }
 
 fn known(satellite: u8, most: u8) -> bool
@@ -53,25 +73,25 @@ fn known(satellite: u8, most: u8) -> bool
 
 // The satellite and the count as one number: 0 where there is neither.
 fn holds(record: &[u8]) -> u32
-    requires { ⌜ 3 ≤ length (now «record») ⌝ }
+    requires { ⌜ agesAt ≤ length (now «record») ⌝ }
     ensures { λ r. ⌜ r ≡ satellite (now («record» .entry)) * 65536 + count (now («record» .entry)) ⌝ }
 {
-    let satellite = record[0] as u32;
-    let count = numbers::read16(record, 1) as u32;
+    let satellite = record[SATELLITE_AT] as u32;
+    let count = numbers::read16(record, COUNT_AT) as u32;
     satellite * 65536 + count
 }
 
 // For the family whose length the record has. A known satellite comes first: it needs no look at the count.
 fn record_allowed(record: &[u8], most: u8) -> bool
-    requires { ⌜ 3 ≤ length (now «record») ⌝ }
+    requires { ⌜ agesAt ≤ length (now «record») ⌝ }
     ensures { λ r. ⌜ ((f : Family) → size f ≡ length (now («record» .entry)) → r ≡ recordAllowed f most (now («record» .entry))) ⌝ }
 {
-    if !known(record[0], most) {
+    if !known(record[SATELLITE_AT], most) {
         if holds(record) != 0 {
             return false;
         }
     }
-    record[record.len() - 1] % 8 == 0
+    record[record.len() - 1] % LAST_WEIGHT == 0
 }
 
 fn slot_allowed(slot: &[u8], most: u8) -> bool
@@ -92,10 +112,10 @@ fn is_empty(slot: &[u8]) -> bool
     if holds(slot) != 0 {
         return false;
     }
-    if numbers::read32(slot, TIMING_AT - 1) != 0 {
+    if numbers::read32(slot, CED_LAST) != 0 {
         return false;
     }
-    slot[SLOT - 1] % 8 == 0
+    slot[TIMING_LAST] % LAST_WEIGHT == 0
 }
 
 // Both records of one satellite, whichever, and no bit past them.
@@ -103,13 +123,13 @@ fn is_shared(slot: &[u8]) -> bool
     requires { ⌜ length (now slot) ≡ slotSize ⌝ }
     ensures { λ r. ⌜ r ≡ isShared (now (slot .entry)) ⌝ }
 {
-    if slot[TIMING_AT] != slot[0] {
+    if slot[TIMING_SATELLITE] != slot[SATELLITE_AT] {
         return false;
     }
-    if slot[TIMING_AT - 1] % 8 != 0 {
+    if slot[CED_LAST] % LAST_WEIGHT != 0 {
         return false;
     }
-    slot[SLOT - 1] % 8 == 0
+    slot[TIMING_LAST] % LAST_WEIGHT == 0
 }
 
 // Whether one look is enough. Where it is not, the slot may still be allowed.
@@ -118,7 +138,7 @@ fn is_plain(slot: &[u8], most: u8) -> bool
     ensures { λ r. ⌜ r ≡ isPlain most (now (slot .entry)) ⌝ }
 {
     if most > 0 {
-        if known(slot[0], most) {
+        if known(slot[SATELLITE_AT], most) {
             return is_shared(slot);
         }
     }
@@ -146,7 +166,7 @@ fn rest_allowed(row: &[u8], from: usize, count: usize, most: u8) -> bool
 // From the first slot on that needs more than a look, record by record.
 fn slots_allowed(row: &[u8], n: usize, most: u8) -> bool
     requires { ⌜ rowSize n ≤ length (now row) ⌝ }
-    ensures { λ r. ⌜ r ≡ allParts (slotAllowed most) slotSize n 8 (now (row .entry)) ⌝ }
+    ensures { λ r. ⌜ r ≡ allParts (slotAllowed most) slotSize n headSize (now (row .entry)) ⌝ }
 {
     let mut at = ROW_HEAD;
     let mut left = n;
@@ -162,31 +182,31 @@ fn slots_allowed(row: &[u8], n: usize, most: u8) -> bool
 }
 
 fn mark_allowed(row: &[u8]) -> bool
-    requires { ⌜ 8 ≤ length (now row) ⌝ }
+    requires { ⌜ headSize ≤ length (now row) ⌝ }
     ensures { λ r. ⌜ r ≡ markAllowed (now (row .entry)) ⌝ }
 {
-    if row[0] > 1 {
+    if row[MARK_AT] > MARKED {
         return false;
     }
-    row[7] == 0
+    row[SPARE_AT] == 0
 }
 
 fn blank_allowed(row: &[u8]) -> bool
-    requires { ⌜ 8 ≤ length (now row) ⌝ }
+    requires { ⌜ headSize ≤ length (now row) ⌝ }
     ensures { λ r. ⌜ r ≡ blankAllowed (now (row .entry)) ⌝ }
 {
-    if numbers::read16(row, 1) != 0 {
+    if numbers::read16(row, WEEK_AT) != 0 {
         return false;
     }
-    numbers::read32(row, 3) == 0
+    numbers::read32(row, TIME_AT) == 0
 }
 
 fn subframe_allowed(row: &[u8]) -> bool
-    requires { ⌜ 8 ≤ length (now row) ⌝ }
+    requires { ⌜ headSize ≤ length (now row) ⌝ }
     ensures { λ r. ⌜ r ≡ subframeAllowed (now (row .entry)) ⌝ }
 {
-    let time = numbers::read32(row, 3);
-    if time > LAST_SUBFRAME {
+    let time = numbers::read32(row, TIME_AT);
+    if time > LAST_START {
         return false;
     }
     time % SUBFRAME_SECONDS == 0
@@ -200,7 +220,7 @@ fn row_allowed(row: &[u8], n: usize) -> bool
     if !mark_allowed(row) {
         return false;
     }
-    if row[0] == 0 {
+    if row[MARK_AT] == 0 {
         if !blank_allowed(row) {
             return false;
         }
@@ -214,7 +234,7 @@ fn row_allowed(row: &[u8], n: usize) -> bool
 
 fn rows_allowed(room: &[u8], d: usize, n: usize) -> bool
     requires { ⌜ (n < 256) × (roomSize d n ≤ length (now room)) ⌝ }
-    ensures { λ r. ⌜ r ≡ allParts (rowAllowed n) (rowSize n) d 8 (now (room .entry)) ⌝ }
+    ensures { λ r. ⌜ r ≡ allParts (rowAllowed n) (rowSize n) d headerSize (now (room .entry)) ⌝ }
 {
     let row = rows::row_size(n);
     let mut at = HEADER;
@@ -243,10 +263,9 @@ pub fn is_store(room: &[u8]) -> bool
     if !header_zeros(room) {
         return false;
     }
-    let d = rows::wide(room[0]);
-    let n = rows::wide(room[1]);
-    // the room ends where a row D would start
-    if room.len() < rows::row_start(n, d) {
+    let d = rows::depth(room);
+    let n = rows::slots(room);
+    if room.len() < rows::room_size(d, n) {
         return false;
     }
     rows_allowed(room, d, n)

@@ -2,3 +2,4 @@
 pub mod OneToOne
 pub mod Told
 pub mod Determined
+pub mod Asks

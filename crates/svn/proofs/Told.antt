@@ -6,24 +6,24 @@ use mathlib.Core.List.{[], _∷_}
 use Prim.Native.Nat.{ℕ}
 use Rattle.paper.specs.Number.{done, refused}
 use Rattle.paper.specs.Satellite.{isSatellite, satelliteOf}
-use Rattle.svn.specs.Answer.{answerOf}
+use Rattle.svn.specs.Answer.{satelliteAnswer}
 use Rattle.svn.specs.declared.Svn.{Svn}
 use Rattle.svn.specs.declared.Satellite.the-variants.{Of, NoSatellite}
 
 -- a satellite: the number is one, and it is this
-pub found : (n : ℕ) (s : Svn) → answerOf (Of s) ≡ satelliteOf n → (isSatellite n ≡ true) × (s .0 ≡ n)
+pub found : (n : ℕ) (s : Svn) → satelliteAnswer (Of s) ≡ satelliteOf n → (isSatellite n ≡ true) × (s .0 ≡ n)
 unfolding satelliteOf
 found n s e = go (isSatellite n) e
   where
-    go : (b : Bool) → answerOf (Of s) ≡ cond b (done (n ∷ [])) (refused 4) → (b ≡ true) × (s .0 ≡ n)
+    go : (b : Bool) → satelliteAnswer (Of s) ≡ cond b (done (n ∷ [])) (refused 4) → (b ≡ true) × (s .0 ≡ n)
     go true h = (refl, cc)
     go false h = absurd (let z : _≡_ {A = ℕ} 0 1 = cc in omega arith)
 
 -- none: the number is none
-pub none : (n : ℕ) → answerOf NoSatellite ≡ satelliteOf n → isSatellite n ≡ false
+pub none : (n : ℕ) → satelliteAnswer NoSatellite ≡ satelliteOf n → isSatellite n ≡ false
 unfolding satelliteOf
 none n e = go (isSatellite n) e
   where
-    go : (b : Bool) → answerOf NoSatellite ≡ cond b (done (n ∷ [])) (refused 4) → b ≡ false
+    go : (b : Bool) → satelliteAnswer NoSatellite ≡ cond b (done (n ∷ [])) (refused 4) → b ≡ false
     go true h = absurd (let z : _≡_ {A = ℕ} 0 1 = cc in omega arith)
     go false h = refl

@@ -5,6 +5,6 @@ use Rattle.svn.specs.declared.Satellite.{Satellite}
 use Rattle.svn.specs.declared.Satellite.the-variants.{Of, NoSatellite}
 
 -- the satellite of a number: 0 with it; 4
-abbrev pub answerOf : Satellite → Answer
-answerOf (Of s) = done (s .0 ∷ [])
-answerOf NoSatellite = refused 4
+abbrev pub satelliteAnswer : Satellite → Answer
+satelliteAnswer (Of s) = done (s .0 ∷ [])
+satelliteAnswer NoSatellite = refused 4

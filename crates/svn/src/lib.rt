@@ -1,9 +1,9 @@
 // Satellites of the Galileo system: 1 to 36, written as E and two digits (document 01, "Satellites").
 ghost use mathlib.Core.Path.{_≡_};
-ghost use Rattle.svn.specs.Answer.{answerOf};
+ghost use Rattle.svn.specs.Answer.{satelliteAnswer};
 ghost use Rattle.paper.specs.Satellite.{isSatellite, satelliteOf, lettersOf};
 
-const MOST_SATELLITES: u8 = 36;
+pub const MOST_SATELLITES: u8 = 36;
 
 // A satellite's number. The public field can hold any, so whoever is given one asks `is_satellite`.
 pub struct Svn(pub u8);
@@ -18,7 +18,7 @@ pub enum Satellite {
 impl Svn {
     // The satellite of a number: 4.
     pub fn try_from(number: u8) -> Satellite
-        ensures { λ r. ⌜ answerOf r ≡ satelliteOf number ⌝ }
+        ensures { λ r. ⌜ satelliteAnswer r ≡ satelliteOf number ⌝ }
     {
         let svn = Svn(number);
         if svn.is_satellite() {

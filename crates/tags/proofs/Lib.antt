@@ -1,3 +1,4 @@
 pub mod Order
 pub mod Accepts
 pub mod Determined
+pub mod Shown

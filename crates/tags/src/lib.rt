@@ -1,33 +1,27 @@
 // "What a tag does": where its candidate lies or why there is none, and what an accepted tag leaves. The refusals come in the
 // paper's order.
 ghost use mathlib.Core.Path.{_≡_};
-ghost use mathlib.Core.Bool.{true};
-ghost use mathlib.Core.List.{[], _∷_};
 ghost use Prim.Native.Nat.{_+_, _≤_};
 ghost use lib.ListN.{length};
-ghost use Rattle.paper.specs.Number.{answer};
 ghost use Rattle.paper.specs.Parts.{part};
-ghost use Rattle.paper.specs.Record.{familyIf, size, dataAt, dataBytes, satellite};
-ghost use Rattle.paper.specs.Store.{isStore};
-ghost use Rattle.paper.specs.Tag.{familyOf, givenAgrees, tagged, takenBy};
-ghost use Rattle.paper.specs.Answer.{roomFor};
-ghost use Rattle.paper.proofs.Views.{Facts};
-ghost use Rattle.tags.specs.Place.{Placed, Sought, taggedAnswer, acceptedNumber};
+ghost use Rattle.paper.specs.Record.{familyIf, size, satellite};
+ghost use Rattle.paper.specs.Store.{InRange};
+ghost use Rattle.paper.specs.Tag.{kindKnown, copAllowed, givenAgrees};
+ghost use Rattle.tags.specs.Candidates.{Placed, Sought, taggedAnswer, acceptedAnswer, acceptedRoom};
 use gst::Gst;
 use gst::NewTime;
+use gst::SUBFRAME_SECONDS;
+use limits::TIMING_KIND;
 use lookup::Found;
 use refusals::Refusal;
 use refusals::Reply;
 use svn::Svn;
 
 // "that time less 30 s"
-const ONE_BEFORE: i32 = -30;
-
-// The kind of a timing tag.
-pub const TIMING: u8 = 4;
+const ONE_BEFORE: i32 = 0 - SUBFRAME_SECONDS as i32;
 
 // Where the candidate's record starts in the room, or why there is none.
-pub enum Place {
+pub enum Candidate {
     At(usize),
     Refused(Refusal),
 }
@@ -39,21 +33,21 @@ pub enum Tagged {
 }
 
 // "16, 10": the MACK's time less 30 s is known here
-fn place_before(room: &[u8], sat: u8, timing: bool, cop: u8, week: u16, time: u32) -> Place
-    requires { ⌜ Facts (now room) ⌝ }
+fn candidate_before(room: &[u8], sat: u8, timing: bool, cop: u8, week: u16, time: u32) -> Candidate
+    requires { ⌜ InRange (now room) ⌝ }
     ensures { λ r. ⌜ Sought r (familyIf timing) sat cop week time (now (room .entry)) ⌝ }
 {
     if cop == 0 {
-        return Place::Refused(Refusal::Dummy);
+        return Candidate::Refused(Refusal::Dummy);
     }
     match lookup::candidate_at(room, timing, sat, cop, week, time) {
-        Found::At(at) => Place::At(at),
-        Found::Nothing => Place::Refused(Refusal::NoCandidate),
+        Found::At(at) => Candidate::At(at),
+        Found::Nothing => Candidate::Refused(Refusal::NoCandidate),
     }
 }
 
 // "3, 4, 5, 6, 8, 9, 7, 16, 10": a tag and the candidate test 8 and 9 each in their own way
-pub fn candidate_place(
+pub fn candidate_of(
     room: &[u8],
     svn: Svn,
     kind: u8,
@@ -61,41 +55,40 @@ pub fn candidate_place(
     mack: Gst,
     allowed: bool,
     known: bool,
-) -> Place
+) -> Candidate
     ensures { λ r. ⌜ Placed r allowed known (svn .0) kind cop (mack .wn .0) (mack .tow .0) (now (room .entry)) ⌝ }
 {
     let reply = entry::mack_entry(room, svn, mack);
     if let Reply::Refused(why) = reply {
-        return Place::Refused(why);
+        return Candidate::Refused(why);
     }
     if !allowed {
-        return Place::Refused(Refusal::NotAllowed);
+        return Candidate::Refused(Refusal::NotAllowed);
     }
     if !known {
-        return Place::Refused(Refusal::Unknown);
+        return Candidate::Refused(Refusal::Unknown);
     }
     match mack.add_seconds(ONE_BEFORE) {
-        NewTime::Time(before) => place_before(
+        NewTime::Time(before) => candidate_before(
             room,
             svn.0,
-            kind == TIMING,
+            kind == TIMING_KIND,
             cop,
             before.wn.0,
             before.tow.0,
         ),
-        NewTime::NoTime => Place::Refused(Refusal::OutOfTime),
-        NewTime::OutOfRange => Place::Refused(Refusal::OutOfTime),
+        NewTime::NoTime => Candidate::Refused(Refusal::OutOfTime),
+        NewTime::OutOfRange => Candidate::Refused(Refusal::OutOfTime),
     }
 }
 
-// The data of the record that starts at `at`.
-pub fn data_of(room: &[u8], at: usize, timing: bool) -> &[u8]
-    requires { ⌜ at + size (familyIf timing) ≤ length (now room) ⌝ }
-    ensures { λ r. ⌜ now r ≡ part (at + dataAt (familyIf timing)) (dataBytes (familyIf timing)) (now (room .entry)) ⌝ }
+// The candidate of a tag of this kind and COP, to be shown.
+pub fn candidate_shown(room: &[u8], svn: Svn, kind: u8, cop: u8, mack: Gst) -> Candidate
+    ensures { λ r. ⌜ Placed r (copAllowed cop) (kindKnown kind) (svn .0) kind cop (mack .wn .0) (mack .tow .0) (now (room .entry)) ⌝ }
 {
-    let e = at + records::size_of(timing);
-    let a = e - records::bytes_of(timing);
-    &room[a..e]
+    let allowed = limits::cop_allowed(cop);
+    let known = limits::kind_known(kind);
+    candidate_of(room, svn, kind, cop, mack, allowed, known)
 }
 
 // "given data not 69 (timing 18) bytes, or different from the candidate in its 549 or 141 bits": whether neither
@@ -106,9 +99,7 @@ fn given_agrees(room: &[u8], at: usize, timing: bool, given: &[u8]) -> bool
     if given.len() != records::bytes_of(timing) {
         return false;
     }
-    let e = at + records::size_of(timing);
-    let a = e - records::bytes_of(timing);
-    credit::same_bits(given, &room[a..e], timing)
+    credit::same_bits(given, lookup::data_of(room, at, timing), timing)
 }
 
 // "11, 17, 18, 0": the candidate's record starts at `at`
@@ -122,10 +113,14 @@ pub fn accept(
     given: &[u8],
     verdict: bool,
 ) -> Tagged
-    requires { ⌜ Facts (now room) ⌝ }
+    requires { ⌜ InRange (now room) ⌝ }
     requires { ⌜ (at + size (familyIf timing) ≤ length (now room)) × (satellite (part at (size (familyIf timing)) (now room)) ≡ sat) ⌝ }
-    ensures { λ r. ⌜ taggedAnswer r ≡ answer (acceptedNumber (familyIf timing) (now (given .entry)) (part at (size (familyIf timing)) (now (room .entry))) verdict status) (takenBy (familyIf timing) (part at (size (familyIf timing)) (now (room .entry))) (now (room .entry)) ∷ []) ⌝ }
-    ensures { λ _. ⌜ now (room .exit) ≡ roomFor (acceptedNumber (familyIf timing) (now (given .entry)) (part at (size (familyIf timing)) (now (room .entry))) verdict status) (tagged (familyIf timing) (part at (size (familyIf timing)) (now (room .entry))) bits (now (room .entry))) (now (room .entry)) ⌝ }
+    ensures { λ r. ⌜ taggedAnswer r
+        ≡ acceptedAnswer (familyIf timing) (now (given .entry)) (part at (size (familyIf timing)) (now (room .entry))) verdict status
+        (now (room .entry)) ⌝ }
+    ensures { λ _. ⌜ now (room .exit)
+        ≡ acceptedRoom (familyIf timing) (now (given .entry)) (part at (size (familyIf timing)) (now (room .entry))) verdict status bits
+        (now (room .entry)) ⌝ }
 {
     if !given_agrees(room, at, timing, given) {
         return Tagged::Refused(Refusal::OtherData);
@@ -136,7 +131,5 @@ pub fn accept(
     if !limits::status_adds(status) {
         return Tagged::Refused(Refusal::StatusAddsNothing);
     }
-    let d = rows::wide(room[0]);
-    let n = rows::wide(room[1]);
-    Tagged::Taken(credit::credit_rows(room, d, n, timing, sat, given, bits))
+    Tagged::Taken(credit::credit_rows(room, timing, sat, given, bits))
 }

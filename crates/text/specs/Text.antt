@@ -16,6 +16,10 @@ pub record Put (s : List ℕ) (at : ℕ) (t s' : List ℕ) (next : ℕ) : Type 0
   pub place : next ≡ at + length t
   pub fits : at + length t ≤ length s
 
+-- a number below 2 ^ 32 has ten digits at most
+abbrev pub mostDigits : ℕ
+mostDigits = 10
+
 -- the decimal digits of x, of which there are at most one more than so many
 unfoldable pub decimalIn : ℕ → ℕ → List ℕ
 decimalIn zero x = (48 + x) ∷ []

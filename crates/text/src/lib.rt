@@ -2,7 +2,7 @@
 ghost use mathlib.Core.Path.{_≡_};
 ghost use Prim.Native.Nat.{_+_, _*_, _≤_, _<_};
 ghost use lib.ListN.{length};
-ghost use Rattle.text.specs.Text.{Put, decimal, hexDigit, hexOf, hex32};
+ghost use Rattle.text.specs.Text.{Put, mostDigits, decimal, hexDigit, hexOf, hex32};
 
 // A text as it stands.
 pub fn put_bytes(out: &mut [u8], at: usize, text: &[u8]) -> usize
@@ -17,10 +17,13 @@ pub fn put_bytes(out: &mut [u8], at: usize, text: &[u8]) -> usize
     at + i
 }
 
-// A number in decimal. The longest has ten digits.
+// The digits of the longest number.
+pub const MOST_DIGITS: usize = 10;
+
+// A number in decimal.
 pub fn put_decimal(out: &mut [u8], at: usize, x: u32) -> usize
-    requires { ⌜ at + 10 ≤ length (now out) ⌝ }
-    ensures { λ r. ⌜ (Put (now (out .entry)) at (decimal x) (now (out .exit)) r) × (r ≤ at + 10) ⌝ }
+    requires { ⌜ at + mostDigits ≤ length (now out) ⌝ }
+    ensures { λ r. ⌜ (Put (now (out .entry)) at (decimal x) (now (out .exit)) r) × (r ≤ at + mostDigits) ⌝ }
 {
     if x < 10 {
         out[at] = b'0' + x as u8;

@@ -28,7 +28,7 @@ fn signed(n: i32) {
     if n < 0 {
         text(b"-");
     }
-    number(signs::size(n));
+    number(signs::size(n) as u64);
 }
 
 fn new_time(answer: NewTime) {

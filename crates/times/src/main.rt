@@ -38,14 +38,14 @@ fn change(n: i32) {
     } else {
         text(b" + ");
     }
-    number(signs::size(n));
+    number(signs::size(n) as u64);
 }
 
 fn signed(n: i32) {
     if n < 0 {
         text(b"-");
     }
-    number(signs::size(n));
+    number(signs::size(n) as u64);
 }
 
 fn new_time(answer: NewTime) {

@@ -1,8 +1,8 @@
--- A record's bits lie in its data.
+-- A record is short.
 use native.Mathlib.Omega.{arith}
-use Prim.Native.Nat.{_*_, _≤_}
-use Rattle.paper.specs.Record.{Family, CED, Timing, recordBits, dataBytes, size}
+use Prim.Native.Nat.{_≤_}
+use Rattle.paper.specs.Record.{Family, CED, Timing, size}
 
-pub bits-fit : (f : Family) → (recordBits f ≤ 8 * dataBytes f) × (size f ≤ 77)
-bits-fit CED = omega arith
-bits-fit Timing = omega arith
+pub short : (f : Family) → size f ≤ size CED
+short CED = omega arith
+short Timing = omega arith

@@ -11,7 +11,13 @@ use Rattle.paper.specs.Word.{nothing, table, ownedIn, owned}
 pub no-ced : (k band : ℕ) → k ≢ 1 → k ≢ 2 → k ≢ 3 → k ≢ 4 → k ≢ 5 → nothing ≡ owned CED k band
 unfolding table ownedIn
 no-ced k band a b c d e =
-    rw (ne-eqb 1 k (λ h. a (sym h)), ne-eqb 2 k (λ h. b (sym h)), ne-eqb 3 k (λ h. c (sym h)), ne-eqb 4 k (λ h. d (sym h)), ne-eqb 5 k (λ h. e (sym h)))
+    rw (
+      ne-eqb 1 k (λ h. a (sym h)),
+      ne-eqb 2 k (λ h. b (sym h)),
+      ne-eqb 3 k (λ h. c (sym h)),
+      ne-eqb 4 k (λ h. d (sym h)),
+      ne-eqb 5 k (λ h. e (sym h)),
+    )
 
 pub no-timing : (k : ℕ) → k ≢ 6 → k ≢ 10 → nothing ≡ owned Timing k 0
 unfolding table ownedIn

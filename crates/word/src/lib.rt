@@ -1,21 +1,18 @@
 // What a word does to one record (document 01, "What a word does").
 ghost use mathlib.Core.Path.{_≡_};
-ghost use Prim.Native.Nat.{ℕ, _+_, _-_, _≤_, _<_};
-ghost use lib.ListN.{length};
 ghost use mathlib.Core.Bool.{cond};
-ghost use lib.ListN.{set};
-ghost use Rattle.paper.specs.Record.{CED, Timing as TIMING, familyIf, recordBits, ages, size, dataAt, withCount};
-ghost use Rattle.paper.specs.Word.{typeOf, owns, owned, taken, written, fedRecord};
-ghost use Rattle.word.specs.Part.{ownedOf, Fits};
+ghost use Prim.Native.Nat.{ℕ, _-_, _≤_, _<_};
+ghost use lib.ListN.{length, set};
+ghost use Rattle.paper.specs.Record.{CED, Timing as TIMING, familyIf, satelliteAt, agesAt, size, withCount};
+ghost use Rattle.paper.specs.Word.{wordBytes, typeOf, owns, owned, InBounds, taken, written, fedRecord};
+ghost use Rattle.word.specs.Part.{ownedOf};
 ghost use Rattle.word.specs.Holder.{heldAnother};
+use records::AGES_AT;
+use records::COUNT_AT;
 use records::Ced;
+use records::OLDEST;
+use records::SATELLITE_AT;
 use records::Timing;
-
-// Where the ages start in a record of either kind, right behind the satellite and the count.
-const AGES: usize = Ced::SIZE - Ced::BYTES - Ced::WORDS;
-
-// "its ages become 255"
-const OLDEST: u8 = 255;
 
 // "The part of the record that the word owns": so many bits to a bit of the record from a bit of the word, and an age.
 enum Owned {
@@ -29,7 +26,7 @@ enum Owned {
 }
 
 fn type_of(word: &[u8]) -> u8
-    requires { ⌜ length (now word) ≡ 16 ⌝ }
+    requires { ⌜ length (now word) ≡ wordBytes ⌝ }
     ensures { λ r. ⌜ r ≡ typeOf (now (word .entry)) ⌝ }
 {
     word[0] / 4
@@ -50,61 +47,61 @@ fn line(to: usize, end: usize, from: usize, age: usize) -> Owned
 
 // The table's lines for CED, on either band.
 fn owned_ced(kind: u8) -> Owned
-    ensures { λ r. ⌜ ((band : ℕ) → ownedOf r ≡ owned CED kind band) × Fits CED (ownedOf r) ⌝ }
+    ensures { λ r. ⌜ ((band : ℕ) → ownedOf r ≡ owned CED kind band) ⌝ }
 {
     match kind {
         1 => line(0, 120, 6, 0),
         2 => line(120, 240, 6, 1),
         3 => line(240, 362, 6, 2),
         4 => line(362, 482, 6, 3),
-        5 => line(482, 549, 6, 4),
+        5 => line(482, Ced::BITS, 6, 4),
         _ => Owned::Nothing,
     }
 }
 
 // The table's lines for timing, "E1B only".
 fn owned_timing(kind: u8, band: u8) -> Owned
-    ensures { λ r. ⌜ (ownedOf r ≡ owned TIMING kind band) × Fits TIMING (ownedOf r) ⌝ }
+    ensures { λ r. ⌜ ownedOf r ≡ owned TIMING kind band ⌝ }
 {
     if band != 0 {
         return Owned::Nothing;
     }
     match kind {
         6 => line(0, 99, 6, 0),
-        10 => line(99, 141, 86, 1),
+        10 => line(99, Timing::BITS, 86, 1),
         _ => Owned::Nothing,
     }
 }
 
 fn clear_count_if(bytes: &mut [u8], cleared: bool)
-    requires { ⌜ 3 ≤ length (now bytes) ⌝ }
+    requires { ⌜ agesAt ≤ length (now bytes) ⌝ }
     ensures { λ _. ⌜ now (bytes .exit) ≡ cond cleared (withCount 0 (now (bytes .entry))) (now (bytes .entry)) ⌝ }
 {
     if !cleared {
         return;
     }
-    numbers::write16(bytes, 1, 0);
+    numbers::write16(bytes, COUNT_AT, 0);
 }
 
 // "If it held another satellite"
 fn holds_another(bytes: &[u8], sat: u8) -> bool
-    requires { ⌜ 1 ≤ length (now bytes) ⌝ }
+    requires { ⌜ satelliteAt < length (now bytes) ⌝ }
     ensures { λ r. ⌜ r ≡ heldAnother sat (now (bytes .entry)) ⌝ }
 {
-    if bytes[0] == sat {
+    if bytes[SATELLITE_AT] == sat {
         return false;
     }
-    bytes[0] != 0
+    bytes[SATELLITE_AT] != 0
 }
 
 // "It takes the satellite", and its count becomes 0 if it held another: whether it did.
 fn take(bytes: &mut [u8], sat: u8) -> bool
-    requires { ⌜ 3 ≤ length (now bytes) ⌝ }
+    requires { ⌜ agesAt ≤ length (now bytes) ⌝ }
     ensures { λ r. ⌜ (r ≡ heldAnother sat (now (bytes .entry)))
-        × (now (bytes .exit) ≡ cond r (withCount 0 (set (now (bytes .entry)) 0 sat)) (set (now (bytes .entry)) 0 sat)) ⌝ }
+        × (now (bytes .exit) ≡ cond r (withCount 0 (set (now (bytes .entry)) satelliteAt sat)) (set (now (bytes .entry)) satelliteAt sat)) ⌝ }
 {
     let another = holds_another(bytes, sat);
-    bytes[0] = sat;
+    bytes[SATELLITE_AT] = sat;
     clear_count_if(bytes, another);
     another
 }
@@ -139,19 +136,21 @@ fn write_bits(
     n: usize,
     age: usize,
 )
-    requires { ⌜ (length (now bytes) ≡ size (familyIf timing)) × (length (now word) ≡ 16) ⌝ }
-    requires { ⌜ (to + n ≤ recordBits (familyIf timing)) × (from + n ≤ 128) × (age < ages (familyIf timing)) ⌝ }
-    ensures { λ _. ⌜ now (bytes .exit) ≡ written (familyIf timing) (owns to from n age) (now (word .entry)) (now (bytes .entry)) ⌝ }
+    requires { ⌜ (length (now bytes) ≡ size (familyIf timing)) × (length (now word) ≡ wordBytes) ⌝ }
+    requires { ⌜ InBounds (familyIf timing) (owns to from n age) ⌝ }
+    ensures { λ _. ⌜ now (bytes .exit)
+        ≡ written (familyIf timing) (owns to from n age) (now (word .entry)) (now (bytes .entry)) ⌝ }
 {
     let start = records::data_at(timing);
     let end = bytes.len();
     let changed = bits::move_bits(&mut bytes[start..end], to, word, from, n);
-    bytes[AGES + age] = 0;
+    bytes[AGES_AT + age] = 0;
     clear_count_if(bytes, changed);
 }
 
 fn write_owned(bytes: &mut [u8], timing: bool, word: &[u8], part: Owned)
-    requires { ⌜ (length (now bytes) ≡ size (familyIf timing)) × (length (now word) ≡ 16) × Fits (familyIf timing) (ownedOf part) ⌝ }
+    requires { ⌜ (length (now bytes) ≡ size (familyIf timing)) × (length (now word) ≡ wordBytes) ⌝ }
+    requires { ⌜ InBounds (familyIf timing) (ownedOf part) ⌝ }
     ensures { λ _. ⌜ now (bytes .exit) ≡ written (familyIf timing) (ownedOf part) (now (word .entry)) (now (bytes .entry)) ⌝ }
 {
     match part {
@@ -167,7 +166,7 @@ fn write_owned(bytes: &mut [u8], timing: bool, word: &[u8], part: Owned)
 
 // What a word of the satellite does to the CED record that it goes to, on either band.
 pub fn feed_ced(bytes: &mut [u8], sat: u8, word: &[u8])
-    requires { ⌜ (length (now bytes) ≡ size CED) × (length (now word) ≡ 16) ⌝ }
+    requires { ⌜ (length (now bytes) ≡ size CED) × (length (now word) ≡ wordBytes) ⌝ }
     ensures { λ _. ⌜ ((band : ℕ) → now (bytes .exit) ≡ fedRecord CED sat band (now (word .entry)) (now (bytes .entry))) ⌝ }
 {
     take_over_ced(bytes, sat);
@@ -177,7 +176,7 @@ pub fn feed_ced(bytes: &mut [u8], sat: u8, word: &[u8])
 
 // What a word of the satellite does to the timing record that it goes to.
 pub fn feed_timing(bytes: &mut [u8], sat: u8, band: u8, word: &[u8])
-    requires { ⌜ (length (now bytes) ≡ size TIMING) × (length (now word) ≡ 16) ⌝ }
+    requires { ⌜ (length (now bytes) ≡ size TIMING) × (length (now word) ≡ wordBytes) ⌝ }
     ensures { λ _. ⌜ now (bytes .exit) ≡ fedRecord TIMING sat band (now (word .entry)) (now (bytes .entry)) ⌝ }
 {
     take_over_timing(bytes, sat);

@@ -18,11 +18,11 @@ abbrev μ-loop : tie.MeasureT-loop
 loop-holds : tie.Need-loop-holds Inv-loop μ-loop
 loop-holds c = (omega arith, (omega arith, (omega arith, refl)))
 
-shared-slice-read-wide : tie.Need-shared-slice-read-wide Inv-loop μ-loop
-shared-slice-read-wide c = omega arith
+shared-slice-read-as-u32 : tie.Need-shared-slice-read-as-u32 Inv-loop μ-loop
+shared-slice-read-as-u32 c = omega arith
 
-wide-requires : tie.Need-wide-requires Inv-loop μ-loop
-wide-requires c κs = tt
+as-u32-requires : tie.Need-as-u32-requires Inv-loop μ-loop
+as-u32-requires c κs = tt
 
 add-reduced : tie.Need-add-reduced Inv-loop μ-loop
 add-reduced c = omega arith
@@ -45,7 +45,7 @@ loop-less c = omega arith
 loop-again : tie.Need-loop-again Inv-loop μ-loop
 loop-again c =
     let h = c .before .before .before .before .before .loop in
-    let x = ap (λ (y : ℕ). (h .s1 + y) % base) (c .before .before .wide .ensures .0) in (
+    let x = ap (λ (y : ℕ). (h .s1 + y) % base) (c .before .before .as-u32 .ensures .0) in (
       omega arith,
       (
         omega arith,
@@ -75,8 +75,8 @@ adler32-spec =
     Inv-loop
     μ-loop
     loop-holds
-    shared-slice-read-wide
-    wide-requires
+    shared-slice-read-as-u32
+    as-u32-requires
     add-reduced
     reduced-requires
     add-reduced-2

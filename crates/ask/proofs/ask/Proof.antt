@@ -1,17 +1,50 @@
--- The record that answers, its count and its time, or the refusal of each.
-use mathlib.Core.Path.{sym, ap, _∙_}
+-- The paper's order, and then the record that answers, its count and its time.
+use mathlib.Core.Path.{_≡_, sym, ap, _∙_}
+use mathlib.Core.Bool.{true}
 use native.Mathlib.Omega.{arith}
+use borrow.Author.Tests.{not-true, not-false}
+use Prim.Native.Nat.{_+_, _≤_}
 use Rattle.paper.specs.Record.{familyIf}
+use Rattle.paper.specs.Room.{headSize}
+use Rattle.paper.specs.Satellite.{isSatellite}
+use Rattle.paper.specs.Store.{isStore}
+use Rattle.paper.specs.Answer.{askNumber, askAnswer}
+use Rattle.paper.proofs.StoreFacts.{store-facts}
 use Rattle.gst.proofs.Told.{refuses}
-use Rattle.gst.specs.Answer.{answerOf}
-use Rattle.ask.proofs.Heads.{head-short}
+use Rattle.gst.specs.Answer.{timeAnswer}
+use Rattle.ask.specs.Answered.{askPlace}
 use Rattle.ask.proofs.Enough.{ask-none, ask-late, ask-told, told-inside}
 use borrow.Author.Needs.{needs}
 use Rattle.ask.proofs.ask.Statement.{statement}
 use Rattle.ask.proofs.ask.Tie as tie
 
-answering-requires : tie.Need-answering-requires
-answering-requires c κs = search needs
+is-store-requires : tie.Need-is-store-requires
+is-store-requires c κs = tt
+
+returns : tie.Need-returns
+unfolding askAnswer askNumber askPlace
+returns c =
+    let no = sym (c .before .is-store .ensures) ∙ not-true _ (c .if1 .taken) in
+    (rw no, rw no)
+
+-- what the two tests say once they are passed
+a-store : (c : tie.Else1) → isStore (c .before .before .before .args .room .now) ≡ true
+a-store c = sym (c .before .is-store .ensures) ∙ not-false _ (c .if1 .left)
+
+is-satellite-requires : tie.Need-is-satellite-requires
+is-satellite-requires c κs = tt
+
+returns-2 : tie.Need-returns-2
+unfolding askAnswer askNumber askPlace
+returns-2 c =
+    let no = sym (c .before .is-satellite .ensures) ∙ not-true _ (c .if2 .taken) in
+    (rw (a-store (c .before .before), no), rw (a-store (c .before .before), no))
+
+a-satellite : (c : tie.Else2) → isSatellite (c .before .before .before .before .before .args .svn .0) ≡ true
+a-satellite c = sym (c .before .is-satellite .ensures) ∙ not-false _ (c .if2 .left)
+
+answering-at-requires : tie.Need-answering-at-requires
+answering-at-requires c κs = store-facts _ (a-store (c .before .before))
 
 enum-known-row : tie.Need-enum-known-row
 enum-known-row c = search needs
@@ -19,58 +52,81 @@ enum-known-row c = search needs
 enum-told : tie.Need-enum-told
 enum-told c = search needs
 
-returns : tie.Need-returns
-returns c =
-    let args = c .before .before .before .before .args in
-    ask-none (familyIf (args .timing)) (args .sat) (args .room .now) (sym (c .before .before .answering .ensures) ∙ c .enum-told .given .1)
+returns-3 : tie.Need-returns-3
+returns-3 c =
+    let place = c .before .before in
+    let test = place .before in
+    let args = test .before .before .before .before .before .args in
+    ask-none (familyIf (args .timing)) (args .svn .0) (args .room .now) (sym (place .answering-at .ensures) ∙ c .enum-told .given .1)
+    (a-store (test .before .before)) (a-satellite test)
 
 time-before-requires : tie.Need-time-before-requires
 time-before-requires c κs =
-    let start = c .before .before .before .before .before in
-    let place = sym (c .before .before .before .answering .ensures) ∙ c .before .row .given .1 in
-    told-inside (familyIf (start .args .timing)) (start .args .sat) (start .args .room .now) _ _ place (start .pre)
+    let told = c .before in
+    let place = told .before .before in
+    let test = place .before in
+    let args = test .before .before .before .before .before .args in
+    told-inside (familyIf (args .timing)) (args .svn .0) (args .room .now) _ _ (sym (place .answering-at .ensures) ∙ told .row .given .1)
+    (store-facts _ (a-store (test .before .before)))
 
 enum-known-time : tie.Need-enum-known-time
 enum-known-time c = search needs
 
-returns-2 : tie.Need-returns-2
-returns-2 c =
-    let start = c .before .before .before .before .before .before .before in
-    let place = sym (c .before .before .before .before .before .answering .ensures) ∙ c .before .before .before .row .given .1 in
-    ask-late (familyIf (start .args .timing)) (start .args .sat) (start .args .room .now) _ _ place _ (c .before .time-before .ensures) (refuses (c .before .time-before .result) (c .match2 .keys2))
+returns-4 : tie.Need-returns-4
+returns-4 c =
+    let time = c .before .time-before in
+    let told = c .before .before .before in
+    let place = told .before .before in
+    let test = place .before in
+    let args = test .before .before .before .before .before .args in
+    ask-late (familyIf (args .timing)) (args .svn .0) (args .room .now) _ _ (sym (place .answering-at .ensures) ∙ told .row .given .1)
+    (a-store (test .before .before)) (a-satellite test) _ (time .ensures) (refuses (time .result) (c .match2 .keys2))
 
 add-read16 : tie.Need-add-read16
 add-read16 c =
-    let start = c .before .before .before .before .before .before .before .before .before in
-    let place = sym (c .before .before .before .before .before .before .before .answering .ensures) ∙ c .before .before .before .before .before .row .given .1 in
-    let inside = told-inside (familyIf (start .args .timing)) (start .args .sat) (start .args .room .now) _ _ place (start .pre) in
-    omega (arith, inside .1, head-short (familyIf (start .args .timing)))
+    let told = c .before .before .before .before .before in
+    let place = told .before .before in
+    let test = place .before in
+    let args = test .before .before .before .before .before .args in
+    let inside = told-inside (familyIf (args .timing)) (args .svn .0) (args .room .now) _ _ (sym (place .answering-at .ensures) ∙ told .row .given .1) in
+    omega (arith, inside (store-facts _ (a-store (test .before .before))) .1)
 
 read16-requires : tie.Need-read16-requires
 read16-requires c κs =
-    let start = c .before .before .before .before .before .before .before .before .before in
-    let place = sym (c .before .before .before .before .before .before .before .answering .ensures) ∙ c .before .before .before .before .before .row .given .1 in
-    let inside = told-inside (familyIf (start .args .timing)) (start .args .sat) (start .args .room .now) _ _ place (start .pre) in
-    omega (arith, inside .1, head-short (familyIf (start .args .timing)))
+    let told = c .before .before .before .before .before in
+    let place = told .before .before in
+    let test = place .before in
+    let args = test .before .before .before .before .before .args in
+    let inside = told-inside (familyIf (args .timing)) (args .svn .0) (args .room .now) _ _ (sym (place .answering-at .ensures) ∙ told .row .given .1) in
+    omega (arith, inside (store-facts _ (a-store (test .before .before))) .1)
 
-returns-3 : tie.Need-returns-3
-returns-3 c =
-    let start = c .before .before .before .before .before .before .before .before .before .before in
-    let place = sym (c .before .before .before .before .before .before .before .before .answering .ensures) ∙ c .before .before .before .before .before .before .row .given .1 in
-    ask-told (familyIf (start .args .timing)) (start .args .sat) (start .args .room .now) _ _ place
-    _ _ _ (c .read16 .ensures) (sym (ap answerOf (c .before .before .time .given .1)) ∙ c .before .before .before .before .time-before .ensures)
+returns-5 : tie.Need-returns-5
+returns-5 c =
+    let time = c .before .before in
+    let before = time .before .before in
+    let told = before .before .before in
+    let place = told .before .before in
+    let test = place .before in
+    let args = test .before .before .before .before .before .args in
+    ask-told (familyIf (args .timing)) (args .svn .0) (args .room .now) _ _ (sym (place .answering-at .ensures) ∙ told .row .given .1)
+    (a-store (test .before .before)) (a-satellite test) _ _ _ (c .read16 .ensures)
+    (sym (ap timeAnswer (time .time .given .1)) ∙ before .time-before .ensures)
 
 pub ask-spec : {M : Type 1} → statement M
 ask-spec =
     tie.close
     (tie.spec
-    answering-requires
+    is-store-requires
+    returns
+    is-satellite-requires
+    returns-2
+    answering-at-requires
     enum-known-row
     enum-told
-    returns
+    returns-3
     time-before-requires
     enum-known-time
-    returns-2
+    returns-4
     add-read16
     read16-requires
-    returns-3)
+    returns-5)

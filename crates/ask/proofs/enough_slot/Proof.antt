@@ -4,7 +4,7 @@ use mathlib.Core.Path.{_≡_, sym, ap, _∙_}
 use native.Mathlib.Omega.{arith}
 use lib.ListN.{length}
 use Rattle.paper.specs.Parts.{firstFrom}
-use Rattle.paper.specs.Record.{familyIf}
+use Rattle.paper.specs.Record.{familyIf, agesAt}
 use Rattle.paper.specs.Ask.{hasEnough, enoughSlot}
 use Rattle.paper.proofs.Parts.{part-lent, length-lent}
 use Rattle.paper.proofs.First.{first-on}
@@ -14,7 +14,9 @@ use Rattle.ask.proofs.enough_slot.Statement.{statement}
 use Rattle.ask.proofs.enough_slot.Tie as tie
 
 abbrev Inv-loop : tie.InvT-loop
-Inv-loop row n timing sat slot₀ slot = (slot ≤ n) × (enoughSlot (familyIf timing) sat n row ≡ firstFrom (isEnough (familyIf timing) sat row) (n - slot) slot)
+Inv-loop row n timing sat slot₀ slot =
+    (slot ≤ n)
+    × (enoughSlot (familyIf timing) sat n row ≡ firstFrom (isEnough (familyIf timing) sat row) (n - slot) slot)
 
 abbrev μ-loop : tie.MeasureT-loop
 μ-loop row n timing sat slot₀ slot = n - slot
@@ -30,7 +32,7 @@ record-start-requires : tie.Need-record-start-requires Inv-loop μ-loop
 record-start-requires c κs = omega arith
 
 -- the head of the record lies within the row
-ends : (c : tie.After-record-start Inv-loop μ-loop) → c .record-start .result + 3 ≤ length (c .before .before .before .before .args .row .now)
+ends : (c : tie.After-record-start Inv-loop μ-loop) → c .record-start .result + agesAt ≤ length (c .before .before .before .before .args .row .now)
 ends c =
     let start = c .before .before .before .before in
     omega (arith, head-inside (familyIf (start .args .timing)) (start .args .n) (c .before .before .loop .slot) (c .before .if1 .left), c .record-start .ensures)
@@ -48,7 +50,7 @@ part-has-enough-end : tie.Need-part-has-enough-end Inv-loop μ-loop
 part-has-enough-end c = omega (arith, ends c)
 
 has-enough-requires : tie.Need-has-enough-requires Inv-loop μ-loop
-has-enough-requires c κs = omega (arith, length-lent (c .before .record-start .result) 3 (c .before .before .before .before .before .args .row .now) (ends (c .before)))
+has-enough-requires c κs = omega (arith, length-lent (c .before .record-start .result) agesAt (c .before .before .before .before .before .args .row .now) (ends (c .before)))
 
 add-slot : tie.Need-add-slot Inv-loop μ-loop
 add-slot c = omega arith
@@ -58,20 +60,25 @@ loop-less c = omega arith
 
 -- the test of the code is the test of the record of slot number `slot`
 test : (c : tie.After-has-enough Inv-loop μ-loop)
-    → c .has-enough .result ≡ isEnough (familyIf (c .before .before .before .before .before .before .args .timing)) (c .before .before .before .before .before .before .args .sat) (c .before .before .before .before .before .before .args .row .now) (c .before .before .before .before .loop .slot)
+    → let here = c .before .before .before .before in
+    let args = here .before .before .args in
+    c .has-enough .result ≡ isEnough (familyIf (args .timing)) (args .sat) (args .row .now) (here .loop .slot)
 test c =
     let placed = c .before .before in
     let args = c .before .before .before .before .before .before .args in
     c .has-enough .ensures
-    ∙ ap (hasEnough (args .sat)) (part-lent (placed .record-start .result) 3 (args .row .now) ∙ rw (placed .record-start .ensures))
+    ∙ ap (hasEnough (args .sat)) (part-lent (placed .record-start .result) agesAt (args .row .now) ∙ rw (placed .record-start .ensures))
     ∙ enough-head (familyIf (args .timing)) (args .sat) (c .before .before .before .before .loop .slot) (args .row .now)
 
 loop-again : tie.Need-loop-again Inv-loop μ-loop
 loop-again c =
-    (omega arith, first-on _ _ _ _ (c .before .before .before .before .before .loop .inv .1) (c .before .before .before .before .if1 .left) (sym (test (c .before)) ∙ c .if2 .left))
+    let more = c .before .before .before .before in
+    (omega arith, first-on _ _ _ _ (more .before .loop .inv .1) (more .if1 .left) (sym (test (c .before)) ∙ c .if2 .left))
 
 returns-2 : tie.Need-returns-2 Inv-loop μ-loop
-returns-2 c = found-here _ _ _ _ (c .before .before .before .before .before .loop .inv .1) (c .before .before .before .before .if1 .left) (sym (test (c .before)) ∙ c .if2 .taken)
+returns-2 c =
+    let more = c .before .before .before .before in
+    found-here _ _ _ _ (more .before .loop .inv .1) (more .if1 .left) (sym (test (c .before)) ∙ c .if2 .taken)
 
 pub enough-slot-spec : {M : Type 1} → statement M
 enough-slot-spec =

@@ -2,6 +2,7 @@
 use Prim.Native.Nat.{_<_}
 use mathlib.Core.Path.{sym, _∙_}
 use native.Mathlib.Omega.{arith}
+use Rattle.paper.specs.Room.{weekAt, timeAt, headSize}
 use Rattle.paper.specs.Ask.{timeBefore}
 use Rattle.paper.proofs.Big.{be16-part, be32-part}
 use Rattle.ask.proofs.Back.{back-told}
@@ -37,8 +38,8 @@ returns c =
     let age = c .before .before .least-age in
     let small : age .result < 256 = search needs in
     let told = back-told (age .result) small in
-    let week = be16-part (start .args .row) 8 (start .args .room .now) 1 (omega arith) in
-    let time = be32-part (start .args .row) 8 (start .args .room .now) 3 (omega arith) in
+    let week = be16-part (start .args .row) headSize (start .args .room .now) weekAt (omega arith) in
+    let time = be32-part (start .args .row) headSize (start .args .room .now) timeAt (omega arith) in
     c .add-subframes .ensures
     ∙ simp (
       c .before .subframes-back .ensures,

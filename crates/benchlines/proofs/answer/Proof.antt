@@ -7,8 +7,8 @@ use borrow.Author.Needs.{needs}
 use Rattle.benchlines.proofs.answer.Statement.{statement}
 use Rattle.benchlines.proofs.answer.Tie as tie
 
-told-requires : tie.Need-told-requires
-told-requires c κs = search needs
+outcome-requires : tie.Need-outcome-requires
+outcome-requires c κs = search needs
 
 satellite-requires : tie.Need-satellite-requires
 satellite-requires c κs = search needs
@@ -28,17 +28,17 @@ same-length-2 c = search needs
 returns : tie.Need-returns
 unfolding recordLine
 returns c =
-    let told = c .before .before .before .before .before .before .before .before .before .told .ensures in
+    let outcome = c .before .before .before .before .before .before .before .before .before .outcome .ensures in
     let a = c .before .before .before .before .before .before .before .before .before .before .before .before .before .before .args in
-    let part = c .before .before .before .part .ensures ∙ ap (recordPart (a .kind) (a .body .now)) (told .1) ∙ part-after (a .kind) (a .body .now) (a .room .now) in
-    let line = simp (c .before .before .before .before .before .satellite .ensures, told .0, part) at (c .before .before .put-line .ensures) in
-    (told .1, (line .0, line .1))
+    let part = c .before .before .before .part .ensures ∙ ap (recordPart (a .kind) (a .body .now)) (outcome .1) ∙ part-after (a .kind) (a .body .now) (a .room .now) in
+    let line = simp (c .before .before .before .before .before .satellite .ensures, outcome .0, part) at (c .before .before .put-line .ensures) in
+    (outcome .1, (line .0, line .1))
 
 pub answer-spec : {M : Type 1} → statement M
 answer-spec =
     tie.close
     (tie.spec
-    told-requires
+    outcome-requires
     satellite-requires
     part-requires
     put-line-requires

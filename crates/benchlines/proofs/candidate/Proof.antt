@@ -26,9 +26,11 @@ candidate-data-requires c κs = search needs
 
 put-bytes-requires : tie.Need-put-bytes-requires
 put-bytes-requires c κs =
-    let body = c .before .before .before .before .before .before .before .before .before .args .body .now in
-    let mack = c .before .before .before .before .before .time .result in
-    let short = candidate-short (getD body 0 0) (getD body 1 0) (getD body 2 0) (mack .wn .0) (mack .tow .0) (c .before .before .before .before .before .before .before .before .before .args .room .now) in
+    let when = c .before .before .before .before .before in
+    let a = when .before .before .before .before .args in
+    let body = a .body .now in
+    let mack = when .time .result in
+    let short = candidate-short (getD body 0 0) (getD body 1 0) (getD body 2 0) (mack .wn .0) (mack .tow .0) (a .room .now) in
     rw (c .candidate-data .ensures) (omega (arith, short))
 
 same-length : tie.Need-same-length

@@ -54,8 +54,9 @@ same-length c = search needs
 returns : tie.Need-returns
 unfolding tagCallOn answerTo roomAfter
 returns c =
-    let when = c .before .before .before .before .before .before .before .before .before .before .before .before .time .ensures in
-    let tag = simp (when .0, when .1, c .before .before .before .before .before .before .before .before .before .before .before .before .before .before .candidate .ensures .0) at (c .before .before .before .tag .ensures) in
+    let mack = c .before .before .before .before .before .before .before .before .before .before .before .before in
+    let when = mack .time .ensures in
+    let tag = simp (when .0, when .1, mack .before .before .candidate .ensures .0) at (c .before .before .before .tag .ensures) in
     (c .tagged .ensures ∙ tag .0, tag .1)
 
 pub tag-spec : {M : Type 1} → statement M

@@ -6,11 +6,11 @@ use borrow.Author.Needs.{needs}
 use Rattle.bits.proofs.byte_or_zero.Statement.{statement}
 use Rattle.bits.proofs.byte_or_zero.Tie as tie
 
-shared-slice-read-wide : tie.Need-shared-slice-read-wide
-shared-slice-read-wide c = omega arith
+shared-slice-read-as-u32 : tie.Need-shared-slice-read-as-u32
+shared-slice-read-as-u32 c = omega arith
 
-wide-requires : tie.Need-wide-requires
-wide-requires c κs = search needs
+as-u32-requires : tie.Need-as-u32-requires
+as-u32-requires c κs = search needs
 
 returns : tie.Need-returns
 returns c = search needs
@@ -19,4 +19,4 @@ returns-2 : tie.Need-returns-2
 returns-2 c = (sym (List·getD-eq-default (c .before .before .args .w .now) 0 (c .if1 .left)), omega arith)
 
 pub byte-or-zero-spec : {M : Type 1} → statement M
-byte-or-zero-spec = tie.close (tie.spec shared-slice-read-wide wide-requires returns returns-2)
+byte-or-zero-spec = tie.close (tie.spec shared-slice-read-as-u32 as-u32-requires returns returns-2)

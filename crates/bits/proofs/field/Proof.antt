@@ -5,11 +5,11 @@ use borrow.Author.Needs.{needs}
 use Rattle.bits.proofs.field.Statement.{statement}
 use Rattle.bits.proofs.field.Tie as tie
 
-shared-slice-read-wide : tie.Need-shared-slice-read-wide
-shared-slice-read-wide c = omega arith
+shared-slice-read-as-u32 : tie.Need-shared-slice-read-as-u32
+shared-slice-read-as-u32 c = omega arith
 
-wide-requires : tie.Need-wide-requires
-wide-requires c κs = search needs
+as-u32-requires : tie.Need-as-u32-requires
+as-u32-requires c κs = search needs
 
 add-byte-or-zero : tie.Need-add-byte-or-zero
 add-byte-or-zero c = omega arith
@@ -45,14 +45,14 @@ rem-result : tie.Need-rem-result
 rem-result c = one-shl-pos (c .before .before .before .before .args .k) (omega arith)
 
 returns : tie.Need-returns
-returns c = rw (one-shl (c .before .before .before .before .args .k) (omega arith), c .before .wide .ensures .0, c .byte-or-zero .ensures .0)
+returns c = rw (one-shl (c .before .before .before .before .args .k) (omega arith), c .before .as-u32 .ensures .0, c .byte-or-zero .ensures .0)
 
 pub field-spec : {M : Type 1} → statement M
 field-spec =
     tie.close
     (tie.spec
-    shared-slice-read-wide
-    wide-requires
+    shared-slice-read-as-u32
+    as-u32-requires
     add-byte-or-zero
     byte-or-zero-requires
     mul-result

@@ -59,8 +59,9 @@ sub-move-field c = omega arith
 move-field-requires-2 : tie.Need-move-field-requires-2
 move-field-requires-2 c κs =
     let s = c .before .before .before .before .before .before .before .before .before .before .before .before .before .before in
-    let k = c .before .before .before .before .before .before .before .before .before .before .run .result in
-    let ends = first-ends (s .args .to) (s .args .size) k (c .before .before .before .before .before .before .before .before .before .before .run .ensures) (c .before .before .before .before .before .if2 .left) in
+    let run = c .before .before .before .before .before .before .before .before .before .before .run in
+    let k = run .result in
+    let ends = first-ends (s .args .to) (s .args .size) k (run .ensures) (c .before .before .before .before .before .if2 .left) in
     let same = c .before .before .before .move-bytes .kept .0 ∙ c .before .before .before .before .before .before .before .before .move-field .kept .0 in
     rest-fits (s .args .to) (s .args .from) (s .args .size) k ((s .args .to + k) / 8) _ _ (ends .0) (ends .1) (rw same (s .pre .0)) (s .pre .1) _ refl
 

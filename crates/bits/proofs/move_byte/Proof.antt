@@ -5,20 +5,20 @@ use borrow.Author.Needs.{needs}
 use Rattle.bits.proofs.move_byte.Statement.{statement}
 use Rattle.bits.proofs.move_byte.Tie as tie
 
-shared-slice-read-wide : tie.Need-shared-slice-read-wide
-shared-slice-read-wide c = search needs
+shared-slice-read-as-u32 : tie.Need-shared-slice-read-as-u32
+shared-slice-read-as-u32 c = search needs
 
-wide-requires : tie.Need-wide-requires
-wide-requires c κs = search needs
+as-u32-requires : tie.Need-as-u32-requires
+as-u32-requires c κs = search needs
 
-add-wide : tie.Need-add-wide
-add-wide c = search needs
+add-as-u32 : tie.Need-add-as-u32
+add-as-u32 c = search needs
 
-shared-slice-read-wide-2 : tie.Need-shared-slice-read-wide-2
-shared-slice-read-wide-2 c = search needs
+shared-slice-read-as-u32-2 : tie.Need-shared-slice-read-as-u32-2
+shared-slice-read-as-u32-2 c = search needs
 
-wide-requires-2 : tie.Need-wide-requires-2
-wide-requires-2 c κs = search needs
+as-u32-requires-2 : tie.Need-as-u32-requires-2
+as-u32-requires-2 c κs = search needs
 
 mul-y : tie.Need-mul-y
 mul-y c = search needs
@@ -49,18 +49,22 @@ returns c =
     let s = c .before .before .before .before .before .before .before .before .before .before in
     let a = s .args in
     let p = c .before .before .put-byte in
-    whole-put (a .d .now) (a .i) (a .w .now) (8 * a .j + a .r) (s .pre .0) (λ i. c .before .before .before .before .before .before .before .before .before .slice-known .given i .fits) (λ i. c .before .before .before .before .before .before .before .before .shared-slice-known .given i .fits) _ (p .last .0) (a .hit) (p .result)
-    (rw (c .before .before .before .before .before .before .wide .ensures .0, c .before .before .before .before .wide2 .ensures .0) (whole-field (a .w .now) (a .j) (a .r) (s .pre .2))) (p .ensures .0) (p .ensures .1)
+    let known = c .before .before .before .before .before .before .before .before in
+    let high = c .before .before .before .before .before .before .as-u32 .ensures .0 in
+    let low = c .before .before .before .before .as-u322 .ensures .0 in
+    whole-put (a .d .now) (a .i) (a .w .now) (8 * a .j + a .r) (s .pre .0) (λ i. known .before .slice-known .given i .fits)
+    (λ i. known .shared-slice-known .given i .fits) _ (p .last .0) (a .hit) (p .result)
+    (rw (high, low) (whole-field (a .w .now) (a .j) (a .r) (s .pre .2))) (p .ensures .0) (p .ensures .1)
 
 pub move-byte-spec : {M : Type 1} → statement M
 move-byte-spec =
     tie.close
     (tie.spec
-    shared-slice-read-wide
-    wide-requires
-    add-wide
-    shared-slice-read-wide-2
-    wide-requires-2
+    shared-slice-read-as-u32
+    as-u32-requires
+    add-as-u32
+    shared-slice-read-as-u32-2
+    as-u32-requires-2
     mul-y
     add-y
     sub-y

@@ -9,11 +9,11 @@ use Rattle.bits.proofs.move_field.Tie as tie
 field-requires : tie.Need-field-requires
 field-requires c κs = search needs
 
-slice-read-wide : tie.Need-slice-read-wide
-slice-read-wide c = search needs
+slice-read-as-u32 : tie.Need-slice-read-as-u32
+slice-read-as-u32 c = search needs
 
-wide-requires : tie.Need-wide-requires
-wide-requires c κs = search needs
+as-u32-requires : tie.Need-as-u32-requires
+as-u32-requires c κs = search needs
 
 add-joined : tie.Need-add-joined
 add-joined c = search needs
@@ -24,7 +24,7 @@ sub-joined c = search needs
 joined-requires : tie.Need-joined-requires
 joined-requires c κs =
     let a = c .before .before .before .before .before .args in
-    (omega arith, c .wide .ensures .1, rw (c .before .before .field .ensures) (field-small (a .w .now) (a .from) (a .k)))
+    (omega arith, c .as-u32 .ensures .1, rw (c .before .before .field .ensures) (field-small (a .w .now) (a .from) (a .k)))
 
 put-byte-requires : tie.Need-put-byte-requires
 put-byte-requires c κs = search needs
@@ -38,16 +38,18 @@ returns c =
     let a = s .args in
     let y = c .before .before .before .before .joined in
     let p = c .before .before .put-byte in
-    one-put (a .d .now) (a .to) (a .w .now) (a .from) (a .k) (s .pre .0) (s .pre .1) (s .pre .2) (λ i. c .before .before .before .before .before .before .before .before .before .slice-known .given i .fits) (λ i. c .before .before .before .before .before .before .before .before .shared-slice-known .given i .fits)
-    (y .result) (p .last .0) (a .hit) (p .result) (y .ensures ∙ rw (c .before .before .before .before .before .wide .ensures .0, c .before .before .before .before .before .before .before .field .ensures)) (p .ensures .0) (p .ensures .1)
+    let known = c .before .before .before .before .before .before .before .before in
+    one-put (a .d .now) (a .to) (a .w .now) (a .from) (a .k) (s .pre .0) (s .pre .1) (s .pre .2)
+    (λ i. known .before .slice-known .given i .fits) (λ i. known .shared-slice-known .given i .fits) (y .result) (p .last .0) (a .hit) (p .result)
+    (y .ensures ∙ rw (c .before .before .before .before .before .as-u32 .ensures .0, c .before .before .before .before .before .before .before .field .ensures)) (p .ensures .0) (p .ensures .1)
 
 pub move-field-spec : {M : Type 1} → statement M
 move-field-spec =
     tie.close
     (tie.spec
     field-requires
-    slice-read-wide
-    wide-requires
+    slice-read-as-u32
+    as-u32-requires
     add-joined
     sub-joined
     joined-requires

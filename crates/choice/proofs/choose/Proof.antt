@@ -3,7 +3,7 @@ use native.Mathlib.Omega.{arith}
 use mathlib.Core.Path.{sym, _∙_}
 use borrow.Author.Needs.{needs}
 use Rattle.paper.specs.Record.{familyIf}
-use Rattle.paper.proofs.Views.{slot-fits, record-parts}
+use Rattle.paper.proofs.Views.{slot-fits}
 use Rattle.paper.proofs.Lengths.{chosen-lt}
 use Rattle.choice.proofs.Keys.{own-is-chosen}
 use Rattle.choice.proofs.choose.Statement.{statement}
@@ -12,10 +12,15 @@ use Rattle.choice.proofs.choose.Tie as tie
 base-requires : tie.Need-base-requires
 base-requires c κs = search needs
 
+add-last-of : tie.Need-add-last-of
+add-last-of c =
+    let f = familyIf (c .before .before .args .timing) in
+    omega (arith, c .base .ensures, slot-fits f)
+
 last-of-requires : tie.Need-last-of-requires
 last-of-requires c κs =
     let f = familyIf (c .before .before .args .timing) in
-    omega (arith, c .base .ensures, slot-fits f, record-parts f)
+    omega (arith, c .base .ensures, slot-fits f)
 
 enum-known-slot : tie.Need-enum-known-slot
 enum-known-slot c = search needs
@@ -46,6 +51,7 @@ choose-spec =
     tie.close
     (tie.spec
     base-requires
+    add-last-of
     last-of-requires
     enum-known-slot
     enum-told

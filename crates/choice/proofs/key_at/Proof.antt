@@ -1,26 +1,24 @@
 -- The record of slot i, lent as a part of the row.
-use Prim.Native.Nat.{_+_, _*_}
-use native.Mathlib.Nat.{add-zero}
+use Prim.Native.Nat.{_+_}
+use native.Mathlib.Omega.{arith}
 use mathlib.Core.Path.{ap, _∙_}
 use borrow.Author.Needs.{needs}
-use Rattle.paper.specs.Record.{CED, Timing, size}
-use Rattle.paper.specs.Room.{slotSize, recordAt}
+use Rattle.paper.specs.Record.{familyIf, CED, Timing, size}
 use Rattle.paper.specs.Feed.{key}
 use Rattle.paper.proofs.Parts.{part-lent}
+use Rattle.paper.proofs.Views.{record-fits}
 use Rattle.choice.proofs.key_at.Statement.{statement}
 use Rattle.choice.proofs.key_at.Tie as tie
 
-mul-start : tie.Need-mul-start
-mul-start c = search needs
-
-add-start : tie.Need-add-start
-add-start c = search needs
-
-add-behind : tie.Need-add-behind
-add-behind c = search needs
+record-start-requires : tie.Need-record-start-requires
+record-start-requires c κs = search needs
 
 add-key-timing : tie.Need-add-key-timing
-add-key-timing c = search needs
+add-key-timing c =
+    let at = c .before in
+    let start = at .before .before in
+    let fits = record-fits (familyIf (start .args .timing)) (start .args .i + 1) (start .args .i) (omega arith) in
+    omega (arith, rw (c .if1 .taken) at fits, rw (c .if1 .taken) at (at .record-start .ensures))
 
 sub-key-timing : tie.Need-sub-key-timing
 sub-key-timing c = search needs
@@ -29,19 +27,30 @@ part-key-timing-start : tie.Need-part-key-timing-start
 part-key-timing-start c = search needs
 
 part-key-timing-end : tie.Need-part-key-timing-end
-part-key-timing-end c = search needs
+part-key-timing-end c =
+    let at = c .before in
+    let start = at .before .before in
+    let fits = record-fits (familyIf (start .args .timing)) (start .args .i + 1) (start .args .i) (omega arith) in
+    omega (arith, rw (c .if1 .taken) at fits, rw (c .if1 .taken) at (at .record-start .ensures))
 
 key-timing-requires : tie.Need-key-timing-requires
 key-timing-requires c κs = search needs
 
 returns : tie.Need-returns
 returns c =
-    let s = c .before .before .before .before .args in
-    rw (c .before .before .if1 .taken)
-    (c .key-timing .ensures ∙ ap (key Timing _) (part-lent (recordAt Timing (s .i)) (size Timing) (s .row .now)))
+    let test = c .before .before in
+    let at = test .before .record-start in
+    let s = test .before .before .before .args in
+    c .key-timing .ensures
+    ∙ ap (key Timing _) (part-lent (at .result) (size Timing) (s .row .now))
+    ∙ rw (at .ensures, test .if1 .taken)
 
 add-key-ced : tie.Need-add-key-ced
-add-key-ced c = search needs
+add-key-ced c =
+    let at = c .before in
+    let start = at .before .before in
+    let fits = record-fits (familyIf (start .args .timing)) (start .args .i + 1) (start .args .i) (omega arith) in
+    omega (arith, rw (c .if1 .left) at fits, rw (c .if1 .left) at (at .record-start .ensures))
 
 sub-key-ced : tie.Need-sub-key-ced
 sub-key-ced c = search needs
@@ -50,24 +59,29 @@ part-key-ced-start : tie.Need-part-key-ced-start
 part-key-ced-start c = search needs
 
 part-key-ced-end : tie.Need-part-key-ced-end
-part-key-ced-end c = search needs
+part-key-ced-end c =
+    let at = c .before in
+    let start = at .before .before in
+    let fits = record-fits (familyIf (start .args .timing)) (start .args .i + 1) (start .args .i) (omega arith) in
+    omega (arith, rw (c .if1 .left) at fits, rw (c .if1 .left) at (at .record-start .ensures))
 
 key-ced-requires : tie.Need-key-ced-requires
 key-ced-requires c κs = search needs
 
 returns-2 : tie.Need-returns-2
 returns-2 c =
-    let s = c .before .before .before .before .args in
-    rw (c .before .before .if1 .left, add-zero)
-    (c .key-ced .ensures ∙ ap (key CED _) (part-lent (8 + s .i * slotSize) (size CED) (s .row .now)))
+    let test = c .before .before in
+    let at = test .before .record-start in
+    let s = test .before .before .before .args in
+    c .key-ced .ensures
+    ∙ ap (key CED _) (part-lent (at .result) (size CED) (s .row .now))
+    ∙ rw (at .ensures, test .if1 .left)
 
 pub key-at-spec : {M : Type 1} → statement M
 key-at-spec =
     tie.close
     (tie.spec
-    mul-start
-    add-start
-    add-behind
+    record-start-requires
     add-key-timing
     sub-key-timing
     part-key-timing-start

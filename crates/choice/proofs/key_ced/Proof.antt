@@ -24,12 +24,12 @@ ages-requires c κs = search needs
 greatest-requires : tie.Need-greatest-requires
 greatest-requires c κs = search needs
 
-wide-requires : tie.Need-wide-requires
-wide-requires c κs = search needs
+as-u16-requires : tie.Need-as-u16-requires
+as-u16-requires c κs = search needs
 
 returns-3 : tie.Need-returns-3
 returns-3 c =
-    c .wide .ensures
+    c .as-u16 .ensures .0
     ∙ c .before .greatest .ensures
     ∙ ap greatest (c .before .before .ages .ensures)
     ∙ sym (key-age CED _ _ (c .before .before .before .before .before .if1 .left) (c .before .before .before .if2 .left))
@@ -44,5 +44,5 @@ key-ced-spec =
     returns-2
     ages-requires
     greatest-requires
-    wide-requires
+    as-u16-requires
     returns-3)

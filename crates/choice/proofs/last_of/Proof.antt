@@ -9,10 +9,10 @@ use Rattle.choice.proofs.last_of.Statement.{statement}
 use Rattle.choice.proofs.last_of.Tie as tie
 
 abbrev Inv-loop : tie.InvT-loop
-Inv-loop row base n sat left₀ left = (left ≤ n) × (lastOf (isOf row base sat) n ≡ lastOf (isOf row base sat) left)
+Inv-loop row at n sat left₀ left = (left ≤ n) × (lastOf (isOf row at sat) n ≡ lastOf (isOf row at sat) left)
 
 abbrev μ-loop : tie.MeasureT-loop
-μ-loop row base n sat left₀ left = left
+μ-loop row at n sat left₀ left = left
 
 loop-holds : tie.Need-loop-holds Inv-loop μ-loop
 loop-holds c = (omega arith, refl)
@@ -23,14 +23,11 @@ returns c = last-nowhere _ _ _ (c .before .loop .inv .1) (c .if1 .taken)
 sub-left : tie.Need-sub-left Inv-loop μ-loop
 sub-left c = omega arith
 
-mul-if2 : tie.Need-mul-if2 Inv-loop μ-loop
-mul-if2 c = omega arith
+slot-start-requires : tie.Need-slot-start-requires Inv-loop μ-loop
+slot-start-requires c κs = omega arith
 
 add-if2 : tie.Need-add-if2 Inv-loop μ-loop
 add-if2 c = omega arith
-
-add-if2-2 : tie.Need-add-if2-2 Inv-loop μ-loop
-add-if2-2 c = omega arith
 
 shared-slice-read-if2 : tie.Need-shared-slice-read-if2 Inv-loop μ-loop
 shared-slice-read-if2 c = omega arith
@@ -40,10 +37,15 @@ loop-less c = omega arith
 
 loop-again : tie.Need-loop-again Inv-loop μ-loop
 loop-again c =
-    (omega arith, last-on _ _ _ (c .before .before .before .loop .inv .1) (omega arith) (ne-eqb _ _ (c .if2 .left)))
+    let at = c .before .before in
+    let here = at .before .before .loop in
+    (omega arith, last-on _ _ _ (here .inv .1) (omega arith) (rw (at .slot-start .ensures) at (ne-eqb _ _ (c .if2 .left))))
 
 returns-2 : tie.Need-returns-2 Inv-loop μ-loop
-returns-2 c = last-here _ _ _ (c .before .before .before .loop .inv .1) (omega arith) (eq-eqb _ _ (c .if2 .taken))
+returns-2 c =
+    let at = c .before .before in
+    let here = at .before .before .loop in
+    last-here _ _ _ (here .inv .1) (omega arith) (rw (at .slot-start .ensures) at (eq-eqb _ _ (c .if2 .taken)))
 
 pub last-of-spec : {M : Type 1} → statement M
 last-of-spec =
@@ -54,9 +56,8 @@ last-of-spec =
     loop-holds
     returns
     sub-left
-    mul-if2
+    slot-start-requires
     add-if2
-    add-if2-2
     shared-slice-read-if2
     loop-less
     loop-again

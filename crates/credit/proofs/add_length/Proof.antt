@@ -1,13 +1,5 @@
 -- `add_length` writes back the sum of the count that it read and the length, held.
-use native.Mathlib.Omega.{arith}
 use borrow.Author.Needs.{needs}
-use borrow.Author.Tests.{not-true, not-false, ne-eqb, eq-eqb}
-use mathlib.Core.Path.{_≡_, refl, sym, ap, _∙_}
-use mathlib.Core.Bool.{Bool, true, false, _&&_}
-use mathlib.Core.List.{List}
-use Prim.Native.Nat.{ℕ, _+_, _-_, _*_, _/_, _≤_}
-use lib.Dec.{eqb}
-use lib.ListN.{length, take, drop, getD}
 use Rattle.credit.proofs.add_length.Statement.{statement}
 use Rattle.credit.proofs.add_length.Tie as tie
 

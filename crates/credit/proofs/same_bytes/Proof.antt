@@ -9,7 +9,9 @@ use Rattle.credit.proofs.same_bytes.Statement.{statement}
 use Rattle.credit.proofs.same_bytes.Tie as tie
 
 abbrev Inv-loop : tie.InvT-loop
-Inv-loop a b from n i₀ i = (i ≤ n) × (sameList (drop from (take n a)) (drop from (take n b)) ≡ sameList (drop i (take n a)) (drop i (take n b)))
+Inv-loop a b from n i₀ i =
+    (i ≤ n)
+    × (sameList (drop from (take n a)) (drop from (take n b)) ≡ sameList (drop i (take n a)) (drop i (take n b)))
 
 abbrev μ-loop : tie.MeasureT-loop
 μ-loop a b from n i₀ i = n - i
@@ -24,7 +26,12 @@ shared-slice-read-if1-2 : tie.Need-shared-slice-read-if1-2 Inv-loop μ-loop
 shared-slice-read-if1-2 c = omega arith
 
 returns : tie.Need-returns Inv-loop μ-loop
-returns c = bytes-differ (c .before .before .before .before .before .args .n) (c .before .before .before .before .loop .i) (c .before .before .before .before .before .args .a .now) (c .before .before .before .before .before .args .b .now) (c .before .before .before .before .before .pre .1 .0) (c .before .before .before .before .before .pre .1 .1) _ (c .before .before .before .before .loop .inv .1) (c .before .before .before .loop-test .taken) (c .if1 .taken)
+returns c =
+    let test = c .before .before .before in
+    let here = test .before in
+    let start = here .before in
+    bytes-differ (start .args .n) (here .loop .i) (start .args .a .now) (start .args .b .now) (start .pre .1 .0) (start .pre .1 .1) _ (here .loop .inv .1)
+    (test .loop-test .taken) (c .if1 .taken)
 
 add-i : tie.Need-add-i Inv-loop μ-loop
 add-i c = omega arith
@@ -33,10 +40,21 @@ loop-less : tie.Need-loop-less Inv-loop μ-loop
 loop-less c = omega arith
 
 loop-again : tie.Need-loop-again Inv-loop μ-loop
-loop-again c = (omega arith, bytes-go (c .before .before .before .before .before .args .n) (c .before .before .before .before .loop .i) (c .before .before .before .before .before .args .a .now) (c .before .before .before .before .before .args .b .now) (c .before .before .before .before .before .pre .1 .0) (c .before .before .before .before .before .pre .1 .1) _ (c .before .before .before .before .loop .inv .1) (c .before .before .before .loop-test .taken) (c .if1 .left))
+loop-again c =
+    let test = c .before .before .before in
+    let here = test .before in
+    let start = here .before in (
+      omega arith,
+      bytes-go (start .args .n) (here .loop .i) (start .args .a .now) (start .args .b .now) (start .pre .1 .0) (start .pre .1 .1) _ (here .loop .inv .1)
+          (test .loop-test .taken) (c .if1 .left),
+    )
 
 returns-2 : tie.Need-returns-2 Inv-loop μ-loop
-returns-2 c = bytes-done (c .before .before .args .n) (c .before .loop .i) (c .before .before .args .a .now) (c .before .before .args .b .now) (c .before .before .pre .1 .0) (c .before .before .pre .1 .1) _ (c .before .loop .inv .1) (c .loop-test .left)
+returns-2 c =
+    let here = c .before in
+    let start = here .before in
+    bytes-done (start .args .n) (here .loop .i) (start .args .a .now) (start .args .b .now) (start .pre .1 .0) (start .pre .1 .1) _ (here .loop .inv .1)
+    (c .loop-test .left)
 
 pub same-bytes-spec : {M : Type 1} → statement M
 same-bytes-spec =

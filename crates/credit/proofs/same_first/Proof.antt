@@ -27,7 +27,11 @@ read32-requires-2 : tie.Need-read32-requires-2 Inv-loop μ-loop
 read32-requires-2 c κs = omega arith
 
 returns : tie.Need-returns Inv-loop μ-loop
-returns c = words-differ (c .before .before .before .before .before .before .before .args .n) (c .before .before .before .before .loop .i) (c .before .before .before .before .before .before .before .args .a .now) (c .before .before .before .before .before .before .before .args .b .now) (c .before .before .before .before .before .before .before .pre .0) (c .before .before .before .before .before .before .before .pre .1) (omega arith) (λ e. c .if1 .taken (c .before .before .read32 .ensures ∙ e ∙ sym (c .before .read322 .ensures)))
+returns c =
+    let here = c .before .before .before .before in
+    let start = here .before .before .before in
+    words-differ (start .args .n) (here .loop .i) (start .args .a .now) (start .args .b .now) (start .pre .0) (start .pre .1) (omega arith)
+    (λ e. c .if1 .taken (c .before .before .read32 .ensures ∙ e ∙ sym (c .before .read322 .ensures)))
 
 add-i : tie.Need-add-i Inv-loop μ-loop
 add-i c = omega arith
@@ -36,11 +40,16 @@ loop-less : tie.Need-loop-less Inv-loop μ-loop
 loop-less c = omega arith
 
 loop-again : tie.Need-loop-again Inv-loop μ-loop
-loop-again c = (
-  omega arith,
-  words-go (c .before .before .before .before .before .before .before .args .n) (c .before .before .before .before .loop .i) (c .before .before .before .before .before .before .before .args .a .now) (c .before .before .before .before .before .before .before .args .b .now) (c .before .before .before .before .before .before .before .pre .0) (c .before .before .before .before .before .before .before .pre .1) (omega arith) (λ k. c .before .before .before .before .before .before .shared-slice-known .given k .fits) (λ k. c .before .before .before .before .before .shared-slice-known2 .given k .fits) _ (c .before .before .before .before .loop .inv .1)
-      (sym (c .before .before .read32 .ensures) ∙ c .if1 .left ∙ c .before .read322 .ensures),
-)
+loop-again c =
+    let here = c .before .before .before .before in
+    let second = here .before in
+    let first = second .before in
+    let start = first .before in (
+      omega arith,
+      words-go (start .args .n) (here .loop .i) (start .args .a .now) (start .args .b .now) (start .pre .0) (start .pre .1) (omega arith)
+          (λ k. first .shared-slice-known .given k .fits) (λ k. second .shared-slice-known2 .given k .fits) _ (here .loop .inv .1)
+          (sym (c .before .before .read32 .ensures) ∙ c .if1 .left ∙ c .before .read322 .ensures),
+    )
 
 same-bytes-requires : tie.Need-same-bytes-requires Inv-loop μ-loop
 same-bytes-requires c κs = omega arith

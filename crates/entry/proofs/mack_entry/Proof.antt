@@ -1,10 +1,10 @@
 -- `mack_entry` tests in the paper's order: each return is the first test that fails, behind those that hold.
-use native.Mathlib.Omega.{arith}
-use borrow.Author.Tests.{lt-ltb, le-ltb, le-leb, lt-leb, eq-eqb, ne-eqb, not-true, not-false}
-use mathlib.Core.Path.{_≡_, refl, sym, ap, _∙_}
-use mathlib.Core.Bool.{Bool, true, false}
+use mathlib.Core.Path.{_≡_, sym, _∙_}
+use mathlib.Core.Bool.{true}
 use mathlib.Core.List.{[]}
-use Prim.Native.Nat.{ℕ}
+use borrow.Author.Tests.{lt-ltb, le-ltb, le-leb, lt-leb, eq-eqb, ne-eqb, not-true, not-false}
+use Rattle.paper.specs.Satellite.{isSatellite}
+use Rattle.paper.specs.Store.{isStore}
 use Rattle.entry.proofs.Order.{stop, pass}
 use Rattle.entry.specs.Mack.{mackNumber}
 use Rattle.entry.proofs.mack_entry.Statement.{statement}
@@ -20,21 +20,42 @@ returns c = stop _ 2 _ [] (sym (c .before .is-store .ensures) ∙ not-true _ (c 
 is-satellite-requires : tie.Need-is-satellite-requires
 is-satellite-requires c κs = tt
 
+-- what the first two tests say once they are passed
+a-store : (c : tie.Else1) → isStore (c .before .before .before .args .room .now) ≡ true
+a-store c = sym (c .before .is-store .ensures) ∙ not-false _ (c .if1 .left)
+
+a-satellite : (c : tie.Else2) → isSatellite (c .before .before .before .before .before .args .svn .0) ≡ true
+a-satellite c = sym (c .before .is-satellite .ensures) ∙ not-false _ (c .if2 .left)
+
 returns-2 : tie.Need-returns-2
 unfolding mackNumber
-returns-2 c = stop _ 3 _ [] (sym (c .before .is-satellite .ensures) ∙ not-true _ (c .if2 .taken)) ∙ pass _ 3 _ [] (sym (c .before .before .before .is-store .ensures) ∙ not-false _ (c .before .before .if1 .left))
+returns-2 c = stop _ 3 _ [] (sym (c .before .is-satellite .ensures) ∙ not-true _ (c .if2 .taken)) ∙ pass _ 3 _ [] (a-store (c .before .before))
 
 returns-3 : tie.Need-returns-3
 unfolding mackNumber
-returns-3 c = stop _ 4 _ [] (le-ltb _ _ (c .if3 .taken)) ∙ pass _ 4 _ [] (sym (c .before .before .is-satellite .ensures) ∙ not-false _ (c .before .if2 .left)) ∙ pass _ 3 _ [] (sym (c .before .before .before .before .is-store .ensures) ∙ not-false _ (c .before .before .before .if1 .left))
+returns-3 c =
+    let sat = c .before in
+    stop _ 4 _ [] (le-ltb _ _ (c .if3 .taken)) ∙ pass _ 4 _ [] (a-satellite sat) ∙ pass _ 3 _ [] (a-store (sat .before .before))
 
 returns-4 : tie.Need-returns-4
 unfolding mackNumber
-returns-4 c = stop _ 5 _ [] (ne-eqb _ _ (c .if4 .taken)) ∙ pass _ 5 _ [] (lt-ltb _ _ (c .before .if3 .left)) ∙ pass _ 4 _ [] (sym (c .before .before .before .is-satellite .ensures) ∙ not-false _ (c .before .before .if2 .left)) ∙ pass _ 3 _ [] (sym (c .before .before .before .before .before .is-store .ensures) ∙ not-false _ (c .before .before .before .before .if1 .left))
+returns-4 c =
+    let time = c .before in
+    let sat = time .before in
+    stop _ 5 _ [] (ne-eqb _ _ (c .if4 .taken))
+    ∙ pass _ 5 _ [] (lt-ltb _ _ (time .if3 .left))
+    ∙ pass _ 4 _ [] (a-satellite sat)
+    ∙ pass _ 3 _ [] (a-store (sat .before .before))
 
 returns-5 : tie.Need-returns-5
 unfolding mackNumber
-returns-5 c = pass _ 6 0 [] (eq-eqb _ _ (c .if4 .left)) ∙ pass _ 5 _ [] (lt-ltb _ _ (c .before .if3 .left)) ∙ pass _ 4 _ [] (sym (c .before .before .before .is-satellite .ensures) ∙ not-false _ (c .before .before .if2 .left)) ∙ pass _ 3 _ [] (sym (c .before .before .before .before .before .is-store .ensures) ∙ not-false _ (c .before .before .before .before .if1 .left))
+returns-5 c =
+    let time = c .before in
+    let sat = time .before in
+    pass _ 6 0 [] (eq-eqb _ _ (c .if4 .left))
+    ∙ pass _ 5 _ [] (lt-ltb _ _ (time .if3 .left))
+    ∙ pass _ 4 _ [] (a-satellite sat)
+    ∙ pass _ 3 _ [] (a-store (sat .before .before))
 
 pub mack-entry-spec : {M : Type 1} → statement M
 mack-entry-spec =

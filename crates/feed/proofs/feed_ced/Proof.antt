@@ -1,8 +1,6 @@
 -- The chosen record, lent as a part of the row, comes back fed.
-use Prim.Native.Nat.{_+_, _*_}
 use native.Mathlib.Omega.{arith}
 use Rattle.paper.specs.Record.{CED}
-use Rattle.paper.specs.Room.{slotSize}
 use Rattle.feed.proofs.Fed.{fed-back}
 use borrow.Author.Needs.{needs}
 use Rattle.feed.proofs.feed_ced.Statement.{statement}
@@ -11,11 +9,8 @@ use Rattle.feed.proofs.feed_ced.Tie as tie
 choose-ced-requires : tie.Need-choose-ced-requires
 choose-ced-requires c κs = search needs
 
-mul-start : tie.Need-mul-start
-mul-start c = search needs
-
-add-start : tie.Need-add-start
-add-start c = search needs
+record-start-requires : tie.Need-record-start-requires
+record-start-requires c κs = search needs
 
 add-feed-ced : tie.Need-add-feed-ced
 add-feed-ced c = search needs
@@ -37,18 +32,19 @@ same-length c = search needs
 
 returns : tie.Need-returns
 returns c band =
-    let s = c .before .before .before .before .before .before .before .before .args in
-    let slot = c .before .before .before .before .choose-ced .result in
-    fed-back CED (s .n) (s .sat) band slot (8 + slot * slotSize) (s .word .now) (s .row .now) _
-    (c .before .before .before .before .choose-ced .ensures .0) (omega arith) (c .before .before .feed-ced .ensures band)
+    let fed = c .before .before in
+    let at = fed .before .before in
+    let slot = at .before .choose-ced in
+    let s = at .before .before .before .before .before .args in
+    fed-back CED (s .n) (s .sat) band (slot .result) (at .record-start .result) (s .word .now) (s .row .now) _
+    (slot .ensures .0) (at .record-start .ensures) (fed .feed-ced .ensures band)
 
 pub feed-ced-spec : {M : Type 1} → statement M
 feed-ced-spec =
     tie.close
     (tie.spec
     choose-ced-requires
-    mul-start
-    add-start
+    record-start-requires
     add-feed-ced
     sub-feed-ced
     part-feed-ced-start

@@ -17,7 +17,11 @@ same-length c = search needs
 
 returns : tie.Need-returns
 unfolding fedRow
-returns c = c .before .before .feed-timing .ensures ∙ ap (fedFamily Timing _ _ _ _) (c .before .before .before .before .before .before .feed-ced .ensures (c .before .before .before .before .before .before .before .before .before .before .args .band))
+returns c =
+    let timing = c .before .before in
+    let ced = timing .before .before .before .before in
+    let band = ced .before .before .before .before .args .band in
+    timing .feed-timing .ensures ∙ ap (fedFamily Timing _ _ _ _) (ced .feed-ced .ensures band)
 
 pub feed-row-spec : {M : Type 1} → statement M
 feed-row-spec = tie.close (tie.spec feed-ced-requires feed-timing-requires same-length returns)

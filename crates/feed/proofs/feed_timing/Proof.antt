@@ -1,7 +1,6 @@
 -- The chosen record, lent as a part of the row, comes back fed.
-use mathlib.Core.Path.{refl}
+use native.Mathlib.Omega.{arith}
 use Rattle.paper.specs.Record.{Timing}
-use Rattle.paper.specs.Room.{recordAt}
 use Rattle.feed.proofs.Fed.{fed-back}
 use borrow.Author.Needs.{needs}
 use Rattle.feed.proofs.feed_timing.Statement.{statement}
@@ -10,14 +9,8 @@ use Rattle.feed.proofs.feed_timing.Tie as tie
 choose-timing-requires : tie.Need-choose-timing-requires
 choose-timing-requires c κs = search needs
 
-mul-start : tie.Need-mul-start
-mul-start c = search needs
-
-add-start : tie.Need-add-start
-add-start c = search needs
-
-add-start-2 : tie.Need-add-start-2
-add-start-2 c = search needs
+record-start-requires : tie.Need-record-start-requires
+record-start-requires c κs = search needs
 
 add-feed-timing : tie.Need-add-feed-timing
 add-feed-timing c = search needs
@@ -39,19 +32,19 @@ same-length c = search needs
 
 returns : tie.Need-returns
 returns c =
-    let s = c .before .before .before .before .before .before .before .before .args in
-    let slot = c .before .before .before .before .choose-timing .result in
-    fed-back Timing (s .n) (s .sat) (s .band) slot (recordAt Timing slot) (s .word .now) (s .row .now) _
-    (c .before .before .before .before .choose-timing .ensures .0) refl (c .before .before .feed-timing .ensures)
+    let fed = c .before .before in
+    let at = fed .before .before in
+    let slot = at .before .choose-timing in
+    let s = at .before .before .before .before .before .args in
+    fed-back Timing (s .n) (s .sat) (s .band) (slot .result) (at .record-start .result) (s .word .now) (s .row .now) _
+    (slot .ensures .0) (at .record-start .ensures) (fed .feed-timing .ensures)
 
 pub feed-timing-spec : {M : Type 1} → statement M
 feed-timing-spec =
     tie.close
     (tie.spec
     choose-timing-requires
-    mul-start
-    add-start
-    add-start-2
+    record-start-requires
     add-feed-timing
     sub-feed-timing
     part-feed-timing-start

@@ -1,26 +1,40 @@
--- The room ends where a row D would start.
-use borrow.Author.Tests.{not-true, not-false}
+-- The room of sizes that are allowed, and 0 for others.
 use mathlib.Core.Path.{sym, _∙_}
+use borrow.Author.Tests.{not-true, not-false}
+use borrow.Author.Needs.{needs}
 use Rattle.ffi.proofs.dawnstook_room_size.Statement.{statement}
 use Rattle.ffi.proofs.dawnstook_room_size.Tie as tie
 
 sizes-allowed-requires : tie.Need-sizes-allowed-requires
-sizes-allowed-requires c κs = tt
+sizes-allowed-requires c κs = search needs
 
 returns : tie.Need-returns
 returns c = rw (sym (c .before .sizes-allowed .ensures) ∙ not-true _ (c .if1 .taken))
 
-wide-requires : tie.Need-wide-requires
-wide-requires c κs = tt
+as-usize-requires : tie.Need-as-usize-requires
+as-usize-requires c κs = search needs
 
-wide-requires-2 : tie.Need-wide-requires-2
-wide-requires-2 c κs = tt
+as-usize-requires-2 : tie.Need-as-usize-requires-2
+as-usize-requires-2 c κs = search needs
 
-row-start-requires : tie.Need-row-start-requires
-row-start-requires c κs = (c .before .wide .ensures .1, c .wide2 .ensures .1)
+room-size-requires : tie.Need-room-size-requires
+room-size-requires c κs = search needs
 
 returns-2 : tie.Need-returns-2
-returns-2 c = rw (sym (c .before .before .before .before .sizes-allowed .ensures) ∙ not-false _ (c .before .before .before .if1 .left)) (rw (c .before .wide2 .ensures .0, c .before .before .wide .ensures .0) at (c .row-start .ensures))
+returns-2 c =
+    let n = c .before in
+    let d = n .before in
+    let test = d .before in
+    let size = rw (n .as-usize2 .ensures .0, d .as-usize .ensures .0) at (c .room-size .ensures) in
+    rw (sym (test .before .sizes-allowed .ensures) ∙ not-false _ (test .if1 .left)) size
 
 pub dawnstook-room-size-spec : {M : Type 1} → statement M
-dawnstook-room-size-spec = tie.close (tie.spec sizes-allowed-requires returns wide-requires wide-requires-2 row-start-requires returns-2)
+dawnstook-room-size-spec =
+    tie.close
+    (tie.spec
+    sizes-allowed-requires
+    returns
+    as-usize-requires
+    as-usize-requires-2
+    room-size-requires
+    returns-2)

@@ -3,7 +3,7 @@ use borrow.Author.Needs.{needs}
 use mathlib.Core.Path.{sym, ap, _∙_}
 use Prim.Native.Nat.{ℕ}
 use Rattle.paper.specs.Number.{refused}
-use Rattle.tags.specs.Place.{taggedAnswer}
+use Rattle.tags.specs.Candidates.{taggedAnswer}
 use Rattle.tags.specs.declared.Tagged.{Tagged}
 use Rattle.ffi.specs.Handed.{takenOf}
 use Rattle.ffi.proofs.of_tag.Statement.{statement}

@@ -8,7 +8,7 @@ use lib.ListN.{length, replicate}
 use Rattle.paper.proofs.Parts.{part-back, length-part}
 use Rattle.paper.specs.Fresh.{blankRow, blankSlot}
 use Rattle.paper.specs.Parts.{onParts}
-use Rattle.paper.specs.Room.{slotSize}
+use Rattle.paper.specs.Room.{headSize, slotSize}
 use Rattle.fresh.proofs.blank_row.Statement.{statement}
 use Rattle.fresh.proofs.blank_row.Tie as tie
 
@@ -33,11 +33,13 @@ same-length c = search needs
 returns : tie.Need-returns
 unfolding blankRow
 returns c =
-    let row = c .before .before .before .before .before .before .before .before .before .args .row .now in
+    let first = c .before .before .before .before .before .before in
+    let args = first .before .before .before .args in
+    let row = args .row .now in
+    let zeros = first .fill .ensures ∙ ap (λ (k : ℕ). replicate k 0) (length-part 0 headSize row (omega arith)) in
     c .before .before .blank-slots .ensures
-    ∙ ap (onParts (λ (_ : List ℕ). blankSlot) slotSize (c .before .before .before .before .before .before .before .before .before .args .n) 8)
-    (part-back (λ (_ : List ℕ). replicate 8 0) 0 8 8 row _ refl
-    (c .before .before .before .before .before .before .fill .ensures ∙ ap (λ (k : ℕ). replicate k 0) (length-part 0 8 row (omega arith))))
+    ∙ ap (onParts (λ (_ : List ℕ). blankSlot) slotSize (args .n) headSize)
+    (part-back (λ (_ : List ℕ). replicate headSize 0) 0 headSize headSize row _ refl zeros)
 
 pub blank-row-spec : {M : Type 1} → statement M
 blank-row-spec =

@@ -6,7 +6,7 @@ use lib.ListN.{length}
 use Rattle.paper.proofs.Parts.{mul-step, part-back-at, parts-step, parts-done}
 use Rattle.paper.specs.Parts.{onParts}
 use Rattle.paper.specs.Fresh.{blankRow}
-use Rattle.paper.specs.Room.{rowSize}
+use Rattle.paper.specs.Room.{headerSize, rowSize}
 use Rattle.fresh.proofs.blank_rows.Statement.{statement}
 use Rattle.fresh.proofs.blank_rows.Tie as tie
 
@@ -14,7 +14,7 @@ abbrev Inv-loop : tie.InvT-loop
 Inv-loop room₀ d n row at₀ left₀ room at left =
     (at + left * row ≤ length room)
     × (length room ≡ length room₀)
-    × (onParts (blankRow n) (rowSize n) d 8 room₀ ≡ onParts (blankRow n) row left at room)
+    × (onParts (blankRow n) (rowSize n) d headerSize room₀ ≡ onParts (blankRow n) row left at room)
 
 abbrev μ-loop : tie.MeasureT-loop
 μ-loop room₀ d n row at₀ left₀ room at left = left
@@ -25,7 +25,7 @@ row-size-requires c κs = omega arith
 loop-holds : tie.Need-loop-holds Inv-loop μ-loop
 loop-holds c =
     let start = c .before .before .args in
-    (simp (c .row-size .ensures) (omega arith), refl, ap (λ (k : ℕ). onParts (blankRow (start .n)) k (start .d) 8 (start .room .now)) (sym (c .row-size .ensures)))
+    (simp (c .row-size .ensures) (omega arith), refl, ap (λ (k : ℕ). onParts (blankRow (start .n)) k (start .d) headerSize (start .room .now)) (sym (c .row-size .ensures)))
 
 add-e : tie.Need-add-e Inv-loop μ-loop
 add-e c = omega (arith, mul-step (c .before .loop .left) (c .before .before .row-size .result) (c .loop-test .taken))

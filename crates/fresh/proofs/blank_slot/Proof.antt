@@ -3,7 +3,7 @@ use native.Mathlib.Omega.{arith}
 use borrow.Author.Needs.{needs}
 use Rattle.paper.proofs.Parts.{length-part}
 use mathlib.Core.Path.{refl}
-use Rattle.paper.specs.Record.{CED, Timing}
+use Rattle.paper.specs.Record.{CED, Timing, size}
 use Rattle.fresh.proofs.Blank.{slot-blank}
 use Rattle.fresh.proofs.blank_slot.Statement.{statement}
 use Rattle.fresh.proofs.blank_slot.Tie as tie
@@ -37,9 +37,10 @@ same-length c = search needs
 
 returns : tie.Need-returns
 returns c =
-    let slot = c .before .before .before .before .before .before .before .before .before .args .slot .now in
-    slot-blank slot _ _ (c .before .before .before .before .before .before .before .before .before .pre)
-    (c .before .before .before .before .before .before .blank-record .ensures CED (length-part 0 77 slot (omega arith)) refl)
+    let first = c .before .before .before .before .before .before in
+    let start = first .before .before .before in
+    let slot = start .args .slot .now in
+    slot-blank slot _ _ (start .pre) (first .blank-record .ensures CED (length-part 0 (size CED) slot (omega arith)) refl)
     (λ e. c .before .before .blank-record2 .ensures Timing e refl)
 
 pub blank-slot-spec : {M : Type 1} → statement M

@@ -7,7 +7,7 @@ use lib.ListN.{length}
 use Rattle.paper.proofs.Parts.{part-back-at, length-lent, parts-step, parts-done}
 use Rattle.paper.specs.Fresh.{blankSlot}
 use Rattle.paper.specs.Parts.{onParts}
-use Rattle.paper.specs.Room.{slotSize}
+use Rattle.paper.specs.Room.{headSize, slotSize}
 use Rattle.fresh.proofs.blank_slots.Statement.{statement}
 use Rattle.fresh.proofs.blank_slots.Tie as tie
 
@@ -15,7 +15,7 @@ abbrev Inv-loop : tie.InvT-loop
 Inv-loop row₀ n at₀ left₀ row at left =
     (at + left * slotSize ≤ length row)
     × (length row ≡ length row₀)
-    × (onParts (λ _. blankSlot) slotSize n 8 row₀ ≡ onParts (λ _. blankSlot) slotSize left at row)
+    × (onParts (λ _. blankSlot) slotSize n headSize row₀ ≡ onParts (λ _. blankSlot) slotSize left at row)
 
 abbrev μ-loop : tie.MeasureT-loop
 μ-loop row₀ n at₀ left₀ row at left = left

@@ -20,8 +20,10 @@ same-length c = search needs
 
 returns : tie.Need-returns
 returns c =
-    let b = c .before .before .put-hex .ensures in
-    (put-then (c .before .before .before .before .before .before .put-bytes .ensures) b, omega (arith, length-hexOf (c .before .before .before .before .before .before .before .before .before .before .before .args .data .now)))
+    let hex = c .before .before in
+    let space = hex .before .before .before .before in
+    let a = space .before .before .before .before .before .args in
+    (put-then (space .put-bytes .ensures) (hex .put-hex .ensures), omega (arith, length-hexOf (a .data .now)))
 
 pub put-data-spec : {M : Type 1} → statement M
 put-data-spec =

@@ -2,6 +2,7 @@
 use native.Mathlib.Omega.{arith}
 use Rattle.text.proofs.Puts.{put-then}
 use Rattle.lines.specs.Lines.{lineOf}
+use Rattle.lines.proofs.Longest.{letter-two}
 use borrow.Author.Needs.{needs}
 use Rattle.lines.proofs.put_line.Statement.{statement}
 use Rattle.lines.proofs.put_line.Tie as tie
@@ -39,9 +40,16 @@ same-length c = search needs
 returns : tie.Need-returns
 unfolding lineOf
 returns c =
-    let letter = rw (c .before .before .before .before .before .before .before .before .before .before .before .before .before .before .before .before .before .before .before .letter .ensures) at (c .before .before .before .before .before .before .before .before .before .before .before .before .before .before .before .before .put-bytes .ensures) in
-    let number = rw (c .before .before .before .before .before .before .before .before .before .before .before .before .number .ensures) at (c .before .before .before .before .before .before .before .before .before .before .before .put-decimal .ensures .0) in
-    (put-then letter (put-then number (put-then (c .before .before .before .before .before .before .before .put-values .ensures .0) (c .before .before .put-bytes2 .ensures))), omega arith)
+    let end = c .before .before in
+    let values = end .before .before .before .before .before in
+    let number = values .before .before .before .before in
+    let first = number .before .before .before .before .before in
+    let start = first .before .before .before .before .before .before in
+    let letter = rw (first .before .before .before .letter .ensures) at (first .put-bytes .ensures) in
+    let digits = rw (number .before .number .ensures) at (number .put-decimal .ensures .0) in
+    let text = put-then letter (put-then digits (put-then (values .put-values .ensures .0) (end .put-bytes2 .ensures))) in
+    let within = values .put-values .ensures .1 in
+    (text, omega (arith, letter .place, letter-two (start .args .kind), number .put-decimal .ensures .1, within, end .put-bytes2 .ensures .place, start .pre .1))
 
 pub put-line-spec : {M : Type 1} → statement M
 put-line-spec =

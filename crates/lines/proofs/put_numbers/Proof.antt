@@ -23,10 +23,11 @@ same-length c = search needs
 
 returns : tie.Need-returns
 unfolding numbersText
-returns c = (
-  put-then (c .before .before .before .before .before .before .before .before .before .before .put-spaced .ensures .0) (put-then (c .before .before .before .before .before .before .put-spaced2 .ensures .0) (c .before .before .put-spaced3 .ensures .0)),
-  omega arith,
-)
+returns c =
+    let time = c .before .before in
+    let week = time .before .before .before .before in
+    let count = week .before .before .before .before in
+    (put-then (count .put-spaced .ensures .0) (put-then (week .put-spaced2 .ensures .0) (time .put-spaced3 .ensures .0)), omega arith)
 
 pub put-numbers-spec : {M : Type 1} → statement M
 put-numbers-spec =

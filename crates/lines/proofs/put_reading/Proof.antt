@@ -20,10 +20,11 @@ same-length c = search needs
 
 returns : tie.Need-returns
 unfolding readingText
-returns c = (
-  put-then (c .before .before .before .before .before .before .before .before .before .before .put-satellite .ensures .0) (put-then (c .before .before .before .before .before .before .put-numbers .ensures .0) (c .before .before .put-data .ensures .0)),
-  omega arith,
-)
+returns c =
+    let hex = c .before .before in
+    let numbers = hex .before .before .before .before in
+    let satellite = numbers .before .before .before .before in
+    (put-then (satellite .put-satellite .ensures .0) (put-then (numbers .put-numbers .ensures .0) (hex .put-data .ensures .0)), omega arith)
 
 pub put-reading-spec : {M : Type 1} → statement M
 put-reading-spec =

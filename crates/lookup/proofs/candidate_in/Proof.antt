@@ -1,18 +1,18 @@
--- The row that is lent is row r; the slot found there, and its ages, decide.
+-- The row that is looked at is row r; the slot found there, and its ages, decide.
 use mathlib.Core.Path.{sym, _∙_}
 use native.Mathlib.Omega.{arith}
+use Prim.Native.Nat.{_+_, _-_, _≤_}
+use lib.ListN.{length, take, drop}
 use borrow.Author.Tests.{not-true, not-false}
 use Rattle.paper.specs.Record.{familyIf}
-use Rattle.lookup.proofs.Steps.{Lent, lent-ends, in-none, in-slot, in-inside, in-unfit, in-fit}
+use Rattle.rows.proofs.Where.{row-ends, row-lent}
+use Rattle.lookup.proofs.Steps.{Looked, in-none, in-slot, in-inside, in-unfit, in-fit}
 use borrow.Author.Needs.{needs}
 use Rattle.lookup.proofs.candidate_in.Statement.{statement}
 use Rattle.lookup.proofs.candidate_in.Tie as tie
 
-shared-slice-read-wide : tie.Need-shared-slice-read-wide
-shared-slice-read-wide c = search needs
-
-wide-requires : tie.Need-wide-requires
-wide-requires c κs = search needs
+slots-requires : tie.Need-slots-requires
+slots-requires c κs = search needs
 
 row-start-requires : tie.Need-row-start-requires
 row-start-requires c κs = search needs
@@ -20,20 +20,18 @@ row-start-requires c κs = search needs
 row-size-requires : tie.Need-row-size-requires
 row-size-requires c κs = search needs
 
--- the row that is lent
-lent : (c : tie.After-row-size)
-    → Lent (c .before .before .before .before .before .args .room .now) (c .before .before .before .before .before .args .r) (c .before .before .wide .result) (c .before .row-start .result) (c .row-size .result)
-lent c =
-    record {
-      facts = c .before .before .before .before .before .pre .0;
-      below = c .before .before .before .before .before .pre .1;
-      count = c .before .before .wide .ensures .0;
-      from = c .before .row-start .ensures;
-      wide = c .row-size .ensures;
-    }
+-- the row lies within the room
+ends : (c : tie.After-row-size)
+    → let args = c .before .before .before .before .args in
+    c .before .row-start .result + c .row-size .result ≤ length (args .room .now)
+ends c =
+    let n = c .before .before .slots in
+    let start = c .before .before .before .before in
+    row-ends (start .args .room .now) (n .result) (start .args .r) _ _ (n .ensures .0) (c .before .row-start .ensures) (c .row-size .ensures)
+    (start .pre .0) (start .pre .1)
 
 add-e : tie.Need-add-e
-add-e c = omega (arith, lent-ends (lent c))
+add-e c = omega (arith, ends c)
 
 sub-slot-of : tie.Need-sub-slot-of
 sub-slot-of c = search needs
@@ -42,7 +40,22 @@ part-slot-of-start : tie.Need-part-slot-of-start
 part-slot-of-start c = search needs
 
 part-slot-of-end : tie.Need-part-slot-of-end
-part-slot-of-end c = omega (arith, lent-ends (lent c))
+part-slot-of-end c = omega (arith, ends c)
+
+-- and is the paper's
+looked : (c : tie.After-row-size)
+    → let args = c .before .before .before .before .args in
+    let at = c .before .row-start .result in
+    Looked (args .room .now) (args .r) (c .before .before .slots .result) (take (at + c .row-size .result - at) (drop at (args .room .now)))
+looked c =
+    let n = c .before .before .slots in
+    let start = c .before .before .before .before in
+    record {
+      facts = start .pre .0;
+      below = start .pre .1;
+      count = n .ensures .0;
+      is = row-lent (start .args .room .now) (n .result) (start .args .r) _ _ (n .ensures .0) (c .before .row-start .ensures) (c .row-size .ensures);
+    }
 
 slot-of-requires : tie.Need-slot-of-requires
 slot-of-requires c κs = search needs
@@ -55,50 +68,64 @@ enum-told c = search needs
 
 returns : tie.Need-returns
 returns c =
-    let looked = c .before .before in
-    let args = looked .before .before .before .before .before .before .before .args in
-    in-none (lent (looked .before .before)) (familyIf (args .timing)) (args .sat) (args .cop) (looked .slot-of .ensures) (c .enum-told .given .1)
+    let slot = c .before .before in
+    let row = slot .before .before in
+    let args = row .before .before .before .before .args in
+    in-none (looked row) (familyIf (args .timing)) (args .sat) (args .cop) (slot .slot-of .ensures) (c .enum-told .given .1)
 
 record-start-requires : tie.Need-record-start-requires
 record-start-requires c κs =
-    let looked = c .before .before .before in
-    let args = looked .before .before .before .before .before .before .before .args in
-    omega (arith, in-slot (lent (looked .before .before)) (familyIf (args .timing)) (args .sat) (args .cop) (looked .slot-of .ensures) (c .before .slot .given .1))
+    let told = c .before in
+    let slot = told .before .before in
+    let row = slot .before .before in
+    let args = row .before .before .before .before .args in
+    omega (arith, in-slot (looked row) (familyIf (args .timing)) (args .sat) (args .cop) (slot .slot-of .ensures) (told .slot .given .1))
 
 add-at : tie.Need-add-at
 add-at c =
-    let looked = c .before .before .before .before in
-    let args = looked .before .before .before .before .before .before .before .args in
-    omega (arith, in-inside (lent (looked .before .before)) (familyIf (args .timing)) (args .sat) (args .cop) (looked .slot-of .ensures) (c .before .before .slot .given .1) (c .record-start .ensures))
+    let told = c .before .before in
+    let slot = told .before .before in
+    let row = slot .before .before in
+    let args = row .before .before .before .before .args in
+    let inside = in-inside (looked row) (familyIf (args .timing)) (args .sat) (args .cop) (slot .slot-of .ensures) (told .slot .given .1) in
+    omega (arith, inside (row .before .row-start .ensures) (c .record-start .ensures))
 
 fits-cop-requires : tie.Need-fits-cop-requires
 fits-cop-requires c κs =
-    let looked = c .before .before .before .before in
-    let args = looked .before .before .before .before .before .before .before .args in
-    in-inside (lent (looked .before .before)) (familyIf (args .timing)) (args .sat) (args .cop) (looked .slot-of .ensures) (c .before .before .slot .given .1) (c .record-start .ensures)
+    let told = c .before .before in
+    let slot = told .before .before in
+    let row = slot .before .before in
+    let args = row .before .before .before .before .args in
+    in-inside (looked row) (familyIf (args .timing)) (args .sat) (args .cop) (slot .slot-of .ensures) (told .slot .given .1)
+    (row .before .row-start .ensures) (c .record-start .ensures)
 
 returns-2 : tie.Need-returns-2
 returns-2 c =
-    let placed = c .before .before in
-    let looked = placed .before .before .before .before in
-    let args = looked .before .before .before .before .before .before .before .args in
-    in-unfit (lent (looked .before .before)) (familyIf (args .timing)) (args .sat) (args .cop) (looked .slot-of .ensures) (placed .before .before .slot .given .1) (placed .record-start .ensures)
+    let at = c .before .before in
+    let told = at .before .before in
+    let slot = told .before .before in
+    let row = slot .before .before in
+    let args = row .before .before .before .before .args in
+    in-unfit (looked row) (familyIf (args .timing)) (args .sat) (args .cop) (slot .slot-of .ensures) (told .slot .given .1)
+    (row .before .row-start .ensures) (at .record-start .ensures)
     (sym (c .before .fits-cop .ensures) ∙ not-true _ (c .if1 .taken))
 
 returns-3 : tie.Need-returns-3
 returns-3 c =
-    let placed = c .before .before in
-    let looked = placed .before .before .before .before in
-    let args = looked .before .before .before .before .before .before .before .args in
-    in-fit (lent (looked .before .before)) (familyIf (args .timing)) (args .sat) (args .cop) (looked .slot-of .ensures) (placed .before .before .slot .given .1) (placed .record-start .ensures)
+    let at = c .before .before in
+    let told = at .before .before in
+    let slot = told .before .before in
+    let row = slot .before .before in
+    let args = row .before .before .before .before .args in
+    in-fit (looked row) (familyIf (args .timing)) (args .sat) (args .cop) (slot .slot-of .ensures) (told .slot .given .1)
+    (row .before .row-start .ensures) (at .record-start .ensures)
     (sym (c .before .fits-cop .ensures) ∙ not-false _ (c .if1 .left))
 
 pub candidate-in-spec : {M : Type 1} → statement M
 candidate-in-spec =
     tie.close
     (tie.spec
-    shared-slice-read-wide
-    wide-requires
+    slots-requires
     row-start-requires
     row-size-requires
     add-e

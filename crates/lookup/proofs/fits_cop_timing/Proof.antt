@@ -10,13 +10,13 @@ ages-requires c κs = search needs
 greatest-requires : tie.Need-greatest-requires
 greatest-requires c κs = search needs
 
-one-more-requires : tie.Need-one-more-requires
-one-more-requires c κs = search needs
+one-older-requires : tie.Need-one-older-requires
+one-older-requires c κs = search needs
 
 returns : tie.Need-returns
 unfolding fitsCop
-returns c = simp (c .one-more .ensures, c .before .greatest .ensures, c .before .before .ages .ensures)
+returns c = simp (c .one-older .ensures, c .before .greatest .ensures, c .before .before .ages .ensures)
 
 pub fits-cop-timing-spec : {M : Type 1} → statement M
 fits-cop-timing-spec =
-    tie.close (tie.spec ages-requires greatest-requires one-more-requires returns)
+    tie.close (tie.spec ages-requires greatest-requires one-older-requires returns)

@@ -1,11 +1,11 @@
 -- The loop holds where row number `row` starts, and that the first row of all is the first from here on.
 use Prim.Native.Nat.{_+_, _-_, _≤_, _<_}
-use mathlib.Core.Path.{_≡_, sym, ap, _∙_}
+use mathlib.Core.Path.{_≡_, refl, sym, ap, _∙_}
 use mathlib.Core.Bool.{_&&_}
 use native.Mathlib.Omega.{arith}
 use lib.ListN.{length}
 use Rattle.paper.specs.Parts.{firstFrom}
-use Rattle.paper.specs.Room.{depth, rowAt, marked, isAt}
+use Rattle.paper.specs.Room.{depth, slots, rowAt, rowSize, marked, isAt}
 use Rattle.paper.specs.Tag.{firstRow}
 use Rattle.paper.proofs.Parts.{length-lent}
 use Rattle.paper.proofs.First.{first-on}
@@ -15,22 +15,18 @@ use Rattle.lookup.proofs.row_marked.Statement.{statement}
 use Rattle.lookup.proofs.row_marked.Tie as tie
 
 abbrev Inv-loop : tie.InvT-loop
-Inv-loop room week time d n size at₀ row₀ at row = (row ≤ d) × ((at ≡ rowAt n row) × (firstRow week time room ≡ firstFrom (isMarked week time room) (d - row) row))
+Inv-loop room week time d size at₀ row₀ at row =
+    (row ≤ d)
+    × ((at ≡ rowAt (slots room) row) × (firstRow week time room ≡ firstFrom (isMarked week time room) (d - row) row))
 
 abbrev μ-loop : tie.MeasureT-loop
-μ-loop room week time d n size at₀ row₀ at row = d - row
+μ-loop room week time d size at₀ row₀ at row = d - row
 
-shared-slice-read-wide : tie.Need-shared-slice-read-wide Inv-loop μ-loop
-shared-slice-read-wide c = omega arith
+depth-requires : tie.Need-depth-requires Inv-loop μ-loop
+depth-requires c κs = omega arith
 
-wide-requires : tie.Need-wide-requires Inv-loop μ-loop
-wide-requires c κs = omega arith
-
-shared-slice-read-wide-2 : tie.Need-shared-slice-read-wide-2 Inv-loop μ-loop
-shared-slice-read-wide-2 c = omega arith
-
-wide-requires-2 : tie.Need-wide-requires-2 Inv-loop μ-loop
-wide-requires-2 c κs = omega arith
+slots-requires : tie.Need-slots-requires Inv-loop μ-loop
+slots-requires c κs = omega arith
 
 row-size-requires : tie.Need-row-size-requires Inv-loop μ-loop
 row-size-requires c κs = omega arith
@@ -38,25 +34,28 @@ row-size-requires c κs = omega arith
 loop-holds : tie.Need-loop-holds Inv-loop μ-loop
 unfolding firstRow
 loop-holds c =
-    let rows = c .before .before .before in
-    let e : rows .wide .result - 0 ≡ rows .wide .result = omega arith in
-    (omega arith, (omega arith, rw (e, rows .wide .ensures .0)))
+    let d = c .before .before .depth in
+    let e : d .result - 0 ≡ d .result = omega arith in
+    (omega arith, (omega arith, rw (e, d .ensures .0)))
 
 returns : tie.Need-returns Inv-loop μ-loop
 returns c =
-    let rows = c .before .before .before .before .before in
-    rw (← rows .wide .ensures .0) (found-none _ _ _ _ (c .before .loop .inv .1 .1) (c .if1 .taken))
+    let here = c .before in
+    let d = here .before .before .before .depth in
+    rw (← d .ensures .0) (found-none _ _ _ _ (here .loop .inv .1 .1) (c .if1 .taken))
 
 -- the row that is looked at lies within the room
-ends : (c : tie.Else1 Inv-loop μ-loop) → c .before .loop .at + c .before .before .row-size .result ≤ length (c .before .before .before .before .before .before .before .before .args .room .now)
+ends : (c : tie.Else1 Inv-loop μ-loop)
+    → c .before .loop .at + c .before .before .row-size .result ≤ length (c .before .before .before .before .before .before .args .room .now)
 ends c =
     let here = c .before .loop in
-    let sized = c .before .before in
-    let count = sized .before in
-    let rows = count .before .before in
-    let start = rows .before .before .before in
-    let h : here .row < depth (start .args .room .now) = omega (arith, rows .wide .ensures) in
-    row-ends (start .args .room .now) _ _ _ _ (count .wide2 .ensures .0) (here .inv .1 .0) (sized .row-size .ensures) (start .pre) h
+    let size = c .before .before in
+    let n = size .before .slots in
+    let d = size .before .before in
+    let start = d .before .before in
+    let h : here .row < depth (start .args .room .now) = omega (arith, d .depth .ensures) in
+    let e : size .row-size .result ≡ rowSize (slots (start .args .room .now)) = size .row-size .ensures ∙ ap rowSize (n .ensures .0) in
+    row-ends (start .args .room .now) _ _ _ _ refl (here .inv .1 .0) e (start .pre) h
 
 add-e : tie.Need-add-e Inv-loop μ-loop
 add-e c = omega (arith, ends c)
@@ -73,9 +72,9 @@ part-is-marked-at-end c = omega (arith, ends c)
 is-marked-at-requires : tie.Need-is-marked-at-requires Inv-loop μ-loop
 is-marked-at-requires c κs =
     let here = c .before .before .loop in
-    let sized = c .before .before .before in
-    let start = sized .before .before .before .before .before .before in
-    omega (arith, length-lent (here .at) (sized .row-size .result) (start .args .room .now) (ends (c .before)), sized .row-size .ensures)
+    let size = c .before .before .before in
+    let start = size .before .before .before .before in
+    omega (arith, length-lent (here .at) (size .row-size .result) (start .args .room .now) (ends (c .before)), size .row-size .ensures)
 
 add-row : tie.Need-add-row Inv-loop μ-loop
 add-row c = omega arith
@@ -85,30 +84,37 @@ loop-less c = omega arith
 
 -- the test of the code is the test of row number `row`
 test : (c : tie.After-is-marked-at Inv-loop μ-loop)
-    → c .is-marked-at .result ≡ isMarked (c .before .before .before .before .before .before .before .before .before .before .args .week) (c .before .before .before .before .before .before .before .before .before .before .args .time) (c .before .before .before .before .before .before .before .before .before .before .args .room .now) (c .before .before .before .loop .row)
+    → let here = c .before .before .before in
+    let args = here .before .before .before .before .before .args in
+    c .is-marked-at .result ≡ isMarked (args .week) (args .time) (args .room .now) (here .loop .row)
 test c =
-    let here = c .before .before .before .loop in
-    let sized = c .before .before .before .before in
-    let count = sized .before in
-    let args = count .before .before .before .before .before .args in
-    let lent = row-lent (args .room .now) _ _ _ _ (count .wide2 .ensures .0) (here .inv .1 .0) (sized .row-size .ensures) in
+    let here = c .before .before .before in
+    let size = here .before in
+    let n = size .before .slots in
+    let args = size .before .before .before .before .args in
+    let e : size .row-size .result ≡ rowSize (slots (args .room .now)) = size .row-size .ensures ∙ ap rowSize (n .ensures .0) in
+    let lent = row-lent (args .room .now) _ _ _ _ refl (here .loop .inv .1 .0) e in
     c .is-marked-at .ensures ∙ ap (λ l. marked l && isAt (args .week) (args .time) l) lent
 
 loop-again : tie.Need-loop-again Inv-loop μ-loop
 loop-again c =
-    let here = c .before .before .before .before .loop in (
+    let test1 = c .before .before .before in
+    let here = test1 .before in
+    let size = here .before in
+    let n = size .before .slots in (
       omega arith,
       (
-        rw row-next (omega (arith, here .inv .1 .0, c .before .before .before .before .before .row-size .ensures)),
-        first-on _ _ _ _ (here .inv .1 .1) (c .before .before .before .if1 .left) (sym (test (c .before)) ∙ c .if2 .left),
+        rw row-next (omega (arith, here .loop .inv .1 .0, size .row-size .ensures, n .ensures .0)),
+        first-on _ _ _ _ (here .loop .inv .1 .1) (test1 .if1 .left) (sym (test (c .before)) ∙ c .if2 .left),
       ),
     )
 
 returns-2 : tie.Need-returns-2 Inv-loop μ-loop
 returns-2 c =
-    let rows = c .before .before .before .before .before .before .before .before in
-    rw (← rows .wide .ensures .0)
-    (found-here _ _ _ _ (c .before .before .before .before .loop .inv .1 .1) (c .before .before .before .if1 .left) (sym (test (c .before)) ∙ c .if2 .taken))
+    let test1 = c .before .before .before in
+    let here = test1 .before in
+    let d = here .before .before .before .depth in
+    rw (← d .ensures .0) (found-here _ _ _ _ (here .loop .inv .1 .1) (test1 .if1 .left) (sym (test (c .before)) ∙ c .if2 .taken))
 
 pub row-marked-spec : {M : Type 1} → statement M
 row-marked-spec =
@@ -116,10 +122,8 @@ row-marked-spec =
     (tie.spec
     Inv-loop
     μ-loop
-    shared-slice-read-wide
-    wide-requires
-    shared-slice-read-wide-2
-    wide-requires-2
+    depth-requires
+    slots-requires
     row-size-requires
     loop-holds
     returns

@@ -27,6 +27,12 @@ returns c = found-none _ _ _ _ (c .before .loop .inv .1) (c .if1 .taken)
 record-start-requires : tie.Need-record-start-requires Inv-loop μ-loop
 record-start-requires c κs = omega arith
 
+add-if2 : tie.Need-add-if2 Inv-loop μ-loop
+add-if2 c =
+    let here = c .before .before in
+    let args = here .before .before .args in
+    omega (arith, record-starts (familyIf (args .timing)) (args .n) (here .loop .slot) (c .before .if1 .left))
+
 shared-slice-read-if2 : tie.Need-shared-slice-read-if2 Inv-loop μ-loop
 shared-slice-read-if2 c =
     let start = c .before .before .before .before .before in
@@ -65,6 +71,7 @@ slot-of-spec =
     loop-holds
     returns
     record-start-requires
+    add-if2
     shared-slice-read-if2
     add-slot
     loop-less

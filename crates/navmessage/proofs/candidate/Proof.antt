@@ -1,22 +1,11 @@
 -- `candidate` tests as a tag does, up to 10.
-use native.Mathlib.Omega.{arith}
+use Rattle.tags.proofs.Shown.{shown-at, shown-refused}
 use borrow.Author.Needs.{needs}
-use borrow.Author.Tests.{not-true, not-false}
-use mathlib.Core.Path.{_≡_, refl, sym, ap, _∙_}
-use mathlib.Core.List.{List, []}
-use Prim.Native.Nat.{ℕ, _+_, _<_}
-use Rattle.navmessage.proofs.Tagging.{shown, shown-refused}
 use Rattle.navmessage.proofs.candidate.Statement.{statement}
 use Rattle.navmessage.proofs.candidate.Tie as tie
 
-cop-allowed-requires : tie.Need-cop-allowed-requires
-cop-allowed-requires c κs = tt
-
-kind-known-requires : tie.Need-kind-known-requires
-kind-known-requires c κs = tt
-
-candidate-place-requires : tie.Need-candidate-place-requires
-candidate-place-requires c κs = tt
+candidate-shown-requires : tie.Need-candidate-shown-requires
+candidate-shown-requires c κs = search needs
 
 enum-told : tie.Need-enum-told
 enum-told c = search needs
@@ -25,19 +14,19 @@ enum-known-why : tie.Need-enum-known-why
 enum-known-why c = search needs
 
 returns : tie.Need-returns
-returns c = shown (c .before .before .before .before .cop-allowed .result) (c .before .before .before .kind-known .result) (c .before .before .before .before .before .before .args .svn .0) (c .before .before .before .before .before .before .args .kind) (c .before .before .before .before .before .before .args .cop) (c .before .before .before .before .before .before .args .mack .wn .0) (c .before .before .before .before .before .before .args .mack .tow .0) (c .before .before .before .before .before .before .args .room .now) (c .before .before .before .before .cop-allowed .ensures) (c .before .before .before .kind-known .ensures) (c .before .before .candidate-place .result) _ (c .enum-told .given .1) (c .before .before .candidate-place .ensures) .0
+returns c =
+    let found = c .before .before in
+    let a = found .before .before .args in
+    shown-at (a .svn .0) (a .kind) (a .cop) (a .mack .wn .0) (a .mack .tow .0) (a .room .now) _ (found .candidate-shown .ensures) _
+    (c .enum-told .given .1) .0
 
 returns-2 : tie.Need-returns-2
-returns-2 c = shown-refused (c .before .before .before .before .before .cop-allowed .result) (c .before .before .before .before .kind-known .result) (c .before .before .before .before .before .before .before .args .svn .0) (c .before .before .before .before .before .before .before .args .kind) (c .before .before .before .before .before .before .before .args .cop) (c .before .before .before .before .before .before .before .args .mack .wn .0) (c .before .before .before .before .before .before .before .args .mack .tow .0) (c .before .before .before .before .before .before .before .args .room .now) (c .before .before .before .before .before .cop-allowed .ensures) (c .before .before .before .before .kind-known .ensures) (c .before .before .before .candidate-place .result) _ (c .before .why .given .1) (c .before .before .before .candidate-place .ensures) .0
+returns-2 c =
+    let found = c .before .before .before in
+    let a = found .before .before .args in
+    shown-refused (a .svn .0) (a .kind) (a .cop) (a .mack .wn .0) (a .mack .tow .0) (a .room .now) _ (found .candidate-shown .ensures) _
+    (c .before .why .given .1) .0
 
 pub candidate-spec : {M : Type 1} → statement M
 candidate-spec =
-    tie.close
-    (tie.spec
-    cop-allowed-requires
-    kind-known-requires
-    candidate-place-requires
-    enum-told
-    enum-known-why
-    returns
-    returns-2)
+    tie.close (tie.spec candidate-shown-requires enum-told enum-known-why returns returns-2)

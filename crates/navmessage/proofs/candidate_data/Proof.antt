@@ -1,58 +1,60 @@
--- `candidate_data` hands out the data at the candidate's place, and an empty part where there is none.
-use native.Mathlib.Omega.{arith}
-use borrow.Author.Needs.{needs}
-use borrow.Author.Tests.{not-true, not-false}
-use mathlib.Core.Path.{_≡_, refl, sym, ap, _∙_}
-use mathlib.Core.List.{List, []}
-use Prim.Native.Nat.{ℕ, _+_, _<_}
+-- The candidate's data lies in the record at its place.
+use mathlib.Core.Path.{_∙_}
 use Rattle.paper.specs.Tag.{familyOf}
-use Rattle.tags.specs.declared.Place.the-variants.{Refused}
-use Rattle.navmessage.proofs.Tagging.{placed-inside, shown, shown-refused}
+use Rattle.tags.proofs.Shown.{shown-at, shown-refused, placed-inside}
+use borrow.Author.Needs.{needs}
 use Rattle.navmessage.proofs.candidate_data.Statement.{statement}
 use Rattle.navmessage.proofs.candidate_data.Tie as tie
 
-cop-allowed-requires : tie.Need-cop-allowed-requires
-cop-allowed-requires c κs = tt
-
-kind-known-requires : tie.Need-kind-known-requires
-kind-known-requires c κs = tt
-
-candidate-place-requires : tie.Need-candidate-place-requires
-candidate-place-requires c κs = tt
+candidate-shown-requires : tie.Need-candidate-shown-requires
+candidate-shown-requires c κs = search needs
 
 enum-known-at : tie.Need-enum-known-at
 enum-known-at c = search needs
 
 data-of-requires : tie.Need-data-of-requires
 unfolding familyOf
-data-of-requires c κs = placed-inside (c .before .before .before .before .before .cop-allowed .result) (c .before .before .before .before .kind-known .result) (c .before .before .before .before .before .before .before .args .svn .0) (c .before .before .before .before .before .before .before .args .kind) (c .before .before .before .before .before .before .before .args .cop) (c .before .before .before .before .before .before .before .args .mack .wn .0) (c .before .before .before .before .before .before .before .args .mack .tow .0) (c .before .before .before .before .before .before .before .args .room .now) (c .before .before .before .candidate-place .result) _ (c .before .at .given .1) (c .before .before .before .candidate-place .ensures) .0
+data-of-requires c κs =
+    let at = c .before in
+    let found = at .before .before in
+    let a = found .before .before .args in
+    placed-inside _ _ (a .svn .0) (a .kind) (a .cop) (a .mack .wn .0) (a .mack .tow .0) (a .room .now) _ (found .candidate-shown .ensures) _
+    (at .at .given .1) .0
 
 enum-told : tie.Need-enum-told
 enum-told c = search needs
 
 sub-result : tie.Need-sub-result
-sub-result c = omega arith
+sub-result c = search needs
 
 part-result-start : tie.Need-part-result-start
-part-result-start c = omega arith
+part-result-start c = search needs
 
 part-result-end : tie.Need-part-result-end
-part-result-end c = omega arith
+part-result-end c = search needs
 
 returns : tie.Need-returns
 unfolding familyOf
-returns c = c .data-of .ensures ∙ shown (c .before .before .before .before .before .before .cop-allowed .result) (c .before .before .before .before .before .kind-known .result) (c .before .before .before .before .before .before .before .before .args .svn .0) (c .before .before .before .before .before .before .before .before .args .kind) (c .before .before .before .before .before .before .before .before .args .cop) (c .before .before .before .before .before .before .before .before .args .mack .wn .0) (c .before .before .before .before .before .before .before .before .args .mack .tow .0) (c .before .before .before .before .before .before .before .before .args .room .now) (c .before .before .before .before .before .before .cop-allowed .ensures) (c .before .before .before .before .before .kind-known .ensures) (c .before .before .before .before .candidate-place .result) _ (c .before .before .at .given .1) (c .before .before .before .before .candidate-place .ensures) .1
+returns c =
+    let at = c .before .before in
+    let found = at .before .before in
+    let a = found .before .before .args in
+    let shown = shown-at (a .svn .0) (a .kind) (a .cop) (a .mack .wn .0) (a .mack .tow .0) (a .room .now) in
+    c .data-of .ensures ∙ shown _ (found .candidate-shown .ensures) _ (at .at .given .1) .1
 
 returns-2 : tie.Need-returns-2
-returns-2 c = shown-refused (c .before .before .before .before .before .cop-allowed .result) (c .before .before .before .before .kind-known .result) (c .before .before .before .before .before .before .before .args .svn .0) (c .before .before .before .before .before .before .before .args .kind) (c .before .before .before .before .before .before .before .args .cop) (c .before .before .before .before .before .before .before .args .mack .wn .0) (c .before .before .before .before .before .before .before .args .mack .tow .0) (c .before .before .before .before .before .before .before .args .room .now) (c .before .before .before .before .before .cop-allowed .ensures) (c .before .before .before .before .kind-known .ensures) (c .before .before .before .candidate-place .result) _ (c .before .enum-told .given .1) (c .before .before .before .candidate-place .ensures) .1
+returns-2 c =
+    let told = c .before in
+    let found = told .before .before in
+    let a = found .before .before .args in
+    shown-refused (a .svn .0) (a .kind) (a .cop) (a .mack .wn .0) (a .mack .tow .0) (a .room .now) _ (found .candidate-shown .ensures) _
+    (told .enum-told .given .1) .1
 
 pub candidate-data-spec : {M : Type 1} → statement M
 candidate-data-spec =
     tie.close
     (tie.spec
-    cop-allowed-requires
-    kind-known-requires
-    candidate-place-requires
+    candidate-shown-requires
     enum-known-at
     data-of-requires
     enum-told

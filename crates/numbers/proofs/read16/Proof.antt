@@ -5,23 +5,23 @@ use borrow.Author.Needs.{needs}
 use Rattle.numbers.proofs.read16.Statement.{statement}
 use Rattle.numbers.proofs.read16.Tie as tie
 
-shared-slice-read-wide16 : tie.Need-shared-slice-read-wide16
-shared-slice-read-wide16 c = search needs
+shared-slice-read-as-u16 : tie.Need-shared-slice-read-as-u16
+shared-slice-read-as-u16 c = search needs
 
-wide16-requires : tie.Need-wide16-requires
-wide16-requires c κs = search needs
+as-u16-requires : tie.Need-as-u16-requires
+as-u16-requires c κs = search needs
 
 mul-result : tie.Need-mul-result
 mul-result c = search needs
 
-add-wide16 : tie.Need-add-wide16
-add-wide16 c = search needs
+add-as-u16 : tie.Need-add-as-u16
+add-as-u16 c = search needs
 
-shared-slice-read-wide16-2 : tie.Need-shared-slice-read-wide16-2
-shared-slice-read-wide16-2 c = search needs
+shared-slice-read-as-u16-2 : tie.Need-shared-slice-read-as-u16-2
+shared-slice-read-as-u16-2 c = search needs
 
-wide16-requires-2 : tie.Need-wide16-requires-2
-wide16-requires-2 c κs = search needs
+as-u16-requires-2 : tie.Need-as-u16-requires-2
+as-u16-requires-2 c κs = search needs
 
 add-result : tie.Need-add-result
 add-result c = search needs
@@ -34,11 +34,11 @@ pub read16-spec : {M : Type 1} → statement M
 read16-spec =
     tie.close
     (tie.spec
-    shared-slice-read-wide16
-    wide16-requires
+    shared-slice-read-as-u16
+    as-u16-requires
     mul-result
-    add-wide16
-    shared-slice-read-wide16-2
-    wide16-requires-2
+    add-as-u16
+    shared-slice-read-as-u16-2
+    as-u16-requires-2
     add-result
     returns)

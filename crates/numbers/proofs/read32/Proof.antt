@@ -7,8 +7,8 @@ use Rattle.numbers.proofs.read32.Tie as tie
 read16-requires : tie.Need-read16-requires
 read16-requires c κs = search needs
 
-wide32-requires : tie.Need-wide32-requires
-wide32-requires c κs = search needs
+widened-requires : tie.Need-widened-requires
+widened-requires c κs = search needs
 
 mul-result : tie.Need-mul-result
 mul-result c = search needs
@@ -19,8 +19,8 @@ add-read16 c = search needs
 read16-requires-2 : tie.Need-read16-requires-2
 read16-requires-2 c κs = search needs
 
-wide32-requires-2 : tie.Need-wide32-requires-2
-wide32-requires-2 c κs = search needs
+widened-requires-2 : tie.Need-widened-requires-2
+widened-requires-2 c κs = search needs
 
 add-result : tie.Need-add-result
 add-result c = search needs
@@ -34,10 +34,10 @@ read32-spec =
     tie.close
     (tie.spec
     read16-requires
-    wide32-requires
+    widened-requires
     mul-result
     add-read16
     read16-requires-2
-    wide32-requires-2
+    widened-requires-2
     add-result
     returns)

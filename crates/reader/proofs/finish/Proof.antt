@@ -25,16 +25,24 @@ same-length c = search needs
 
 returns-2 : tie.Need-returns-2
 returns-2 c =
-    let a = c .before .before .before .before .before .before .before .before .before .before .before .before .before .args in
-    (rw (rest-some (a .traced) (a .room .now) (a .have) (c .before .before .before .before .before .before .before .before .before .before .if1 .left), c .before .before .before .before .if2 .taken) (put-then (c .before .before .before .before .before .before .before .put-line .ensures .0) (c .before .before .put-trace .ensures .0)), omega arith)
+    let trace = c .before .before in
+    let test = trace .before .before in
+    let line = test .before .before .before in
+    let some = line .before .before .before in
+    let a = some .before .before .before .args in
+    let text = put-then (line .put-line .ensures .0) (trace .put-trace .ensures .0) in
+    (rw (rest-some (a .traced) (a .room .now) (a .have) (some .if1 .left), test .if2 .taken) text, omega arith)
 
 same-length-2 : tie.Need-same-length-2
 same-length-2 c = search needs
 
 returns-3 : tie.Need-returns-3
 returns-3 c =
-    let a = c .before .before .before .before .before .before .before .before .before .args in
-    (rw (rest-some (a .traced) (a .room .now) (a .have) (c .before .before .before .before .before .before .if1 .left), c .if2 .left) (put-then (c .before .before .before .put-line .ensures .0) (put-none _ _ (omega arith))), omega arith)
+    let line = c .before .before .before in
+    let some = line .before .before .before in
+    let a = some .before .before .before .args in
+    let text = put-then (line .put-line .ensures .0) (put-none _ _ (omega arith)) in
+    (rw (rest-some (a .traced) (a .room .now) (a .have) (some .if1 .left), c .if2 .left) text, omega arith)
 
 pub finish-spec : {M : Type 1} → statement M
 finish-spec =

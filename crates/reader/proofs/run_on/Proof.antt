@@ -15,7 +15,7 @@ abbrev μ-loop : tie.MeasureT-loop
 μ-loop room₀ kept₀ traced have₀ turns₀ room kept have turns = turns
 
 loop-holds : tie.Need-loop-holds Inv-loop μ-loop
-loop-holds c = (record { size = c .before .before .pre; within = omega arith }, (refl, refl))
+loop-holds c = (record { size = c .before .before .pre .1; within = omega arith }, (refl, refl))
 
 turn-requires : tie.Need-turn-requires Inv-loop μ-loop
 turn-requires c κs = c .before .before .before .loop .inv .0

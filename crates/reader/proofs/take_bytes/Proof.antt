@@ -5,14 +5,14 @@ use mathlib.Core.Bool.{false}
 use borrow.Author.Needs.{needs}
 use Prim.Native.Nat.{_+_, _*_, _-_, _≤_}
 use lib.ListN.{length, drop}
-use Rattle.reader.specs.Reader.{more, standing, Unfinished}
+use Rattle.reader.specs.Reader.{mostLines, more, standing, Unfinished}
 use Rattle.reader.proofs.Heard.{more-stopped, more-turn, more-done}
 use Rattle.reader.proofs.take_bytes.Statement.{statement}
 use Rattle.reader.proofs.take_bytes.Tie as tie
 
 abbrev Inv-loop : tie.InvT-loop
 Inv-loop room₀ kept₀ have bytes out₀ traced count₀ said₀ i₀ room kept out count said i =
-    ((i ≤ length bytes) × (said ≤ 211 * i))
+    ((i ≤ length bytes) × (said ≤ mostLines * i))
     × (((length room ≡ length room₀) × (length kept ≡ length kept₀) × (length out ≡ length out₀))
     × (Unfinished kept count
     × (more traced (standing room₀ kept₀ have false out₀ 0) bytes ≡ more traced (standing room kept count false out said) (drop i bytes))))
@@ -30,19 +30,25 @@ take-byte-requires : tie.Need-take-byte-requires Inv-loop μ-loop
 take-byte-requires c κs = (c .before .before .before .before .before .loop .inv .1 .1 .0, omega arith)
 
 same-length : tie.Need-same-length Inv-loop μ-loop
-same-length c = c .before .before .before .before .before .before .before .take-byte .kept .0 ∙ c .before .before .before .before .before .before .before .before .before .before .before .before .before .loop .inv .1 .0 .0
+same-length c =
+    let byte = c .before .before .before .before .before .before .before in
+    byte .take-byte .kept .0 ∙ byte .before .before .before .before .before .before .loop .inv .1 .0 .0
 
 same-length-2 : tie.Need-same-length-2 Inv-loop μ-loop
-same-length-2 c = c .before .before .before .before .before .before .before .take-byte .kept .1 .0 ∙ c .before .before .before .before .before .before .before .before .before .before .before .before .before .loop .inv .1 .0 .1
+same-length-2 c =
+    let byte = c .before .before .before .before .before .before .before in
+    byte .take-byte .kept .1 .0 ∙ byte .before .before .before .before .before .before .loop .inv .1 .0 .1
 
 same-length-3 : tie.Need-same-length-3 Inv-loop μ-loop
 same-length-3 c = search needs
 
 returns : tie.Need-returns Inv-loop μ-loop
 returns c =
-    let h = c .before .before .before .before .before .before .before .before .before .before .before .before .before .loop in
-    let t = c .before .before .before .before .before .before .before .take-byte in
-    let next = more-turn _ _ _ _ (h .i) (c .before .before .before .before .before .before .before .before .before .before .before .before .loop-test .taken) (t .ensures .0) in
+    let byte = c .before .before .before .before .before .before .before in
+    let test = byte .before .before .before .before .before in
+    let h = test .before .loop in
+    let t = byte .take-byte in
+    let next = more-turn _ _ _ _ (h .i) (test .loop-test .taken) (t .ensures .0) in
     (sym (h .inv .1 .1 .1 ∙ next ∙ more-stopped _ _ _ (c .if1 .taken)), (t .ensures .1 .0, omega arith))
 
 add-i : tie.Need-add-i Inv-loop μ-loop
@@ -53,9 +59,11 @@ loop-less c = omega arith
 
 loop-again : tie.Need-loop-again Inv-loop μ-loop
 loop-again c =
-    let h = c .before .before .before .before .before .before .before .before .before .before .before .before .before .loop in
-    let t = c .before .before .before .before .before .before .before .take-byte in
-    let next = more-turn _ _ _ _ (h .i) (c .before .before .before .before .before .before .before .before .before .before .before .before .loop-test .taken) (rw (c .if1 .left) at (t .ensures .0)) in (
+    let byte = c .before .before .before .before .before .before .before in
+    let test = byte .before .before .before .before .before in
+    let h = test .before .loop in
+    let t = byte .take-byte in
+    let next = more-turn _ _ _ _ (h .i) (test .loop-test .taken) (rw (c .if1 .left) at (t .ensures .0)) in (
       (omega arith, omega arith),
       (
         (t .kept .0 ∙ h .inv .1 .0 .0, t .kept .1 .0 ∙ h .inv .1 .0 .1, search needs),

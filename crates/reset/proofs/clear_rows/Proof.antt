@@ -1,23 +1,29 @@
 -- `reset::clear_rows` meets its contract: the rows from here on, cleared, make what all of them make.
 use native.Mathlib.Omega.{arith}
 use mathlib.Core.Path.{_≡_, refl, sym, ap, _∙_}
+use mathlib.Core.Bool.{Bool}
+use mathlib.Core.List.{List}
 use Prim.Native.Nat.{ℕ, _+_, _*_, _≤_}
 use lib.ListN.{length}
 use Rattle.paper.proofs.Parts.{mul-step, part-back-at, parts-step, parts-done}
 use Rattle.paper.specs.Parts.{onParts}
-use Rattle.paper.specs.Record.{Family, withCount}
-use Rattle.paper.specs.Room.{base, rowSize, eachRecord}
+use Rattle.paper.specs.Record.{familyIf, withCount}
+use Rattle.paper.specs.Room.{headerSize, rowSize, eachRecord}
 use Rattle.reset.proofs.clear_rows.Statement.{statement}
 use Rattle.reset.proofs.clear_rows.Tie as tie
 
+-- what is done to a row
+abbrev cleared : Bool → ℕ → List ℕ → List ℕ
+cleared timing n = eachRecord (familyIf timing) n (withCount 0)
+
 abbrev Inv-loop : tie.InvT-loop
-Inv-loop room₀ d n from row at₀ left₀ room at left =
+Inv-loop room₀ d n timing row at₀ left₀ room at left =
     (at + left * row ≤ length room)
     × (length room ≡ length room₀)
-    × ((f : Family) → from ≡ base f → onParts (eachRecord f n (withCount 0)) (rowSize n) d 8 room₀ ≡ onParts (eachRecord f n (withCount 0)) row left at room)
+    × (onParts (cleared timing n) (rowSize n) d headerSize room₀ ≡ onParts (cleared timing n) row left at room)
 
 abbrev μ-loop : tie.MeasureT-loop
-μ-loop room₀ d n from row at₀ left₀ room at left = left
+μ-loop room₀ d n timing row at₀ left₀ room at left = left
 
 row-size-requires : tie.Need-row-size-requires Inv-loop μ-loop
 row-size-requires c κs = omega arith
@@ -25,7 +31,8 @@ row-size-requires c κs = omega arith
 loop-holds : tie.Need-loop-holds Inv-loop μ-loop
 loop-holds c =
     let start = c .before .before .args in
-    (simp (c .row-size .ensures) (omega arith), refl, λ f e. ap (λ (k : ℕ). onParts (eachRecord f (start .n) (withCount 0)) k (start .d) 8 (start .room .now)) (sym (c .row-size .ensures)))
+    let change = cleared (start .timing) (start .n) in
+    (simp (c .row-size .ensures) (omega arith), refl, ap (λ (k : ℕ). onParts change k (start .d) headerSize (start .room .now)) (sym (c .row-size .ensures)))
 
 add-next : tie.Need-add-next Inv-loop μ-loop
 add-next c = omega (arith, mul-step (c .before .loop .left) (c .before .before .row-size .result) (c .loop-test .taken))
@@ -50,20 +57,21 @@ loop-less c = omega arith
 
 loop-again : tie.Need-loop-again Inv-loop μ-loop
 loop-again c =
-    let s = c .before .before .before .before .before .loop in
-    let row = c .before .before .before .before .before .before .row-size .result in (
-      omega (arith, mul-step (s .left) row (c .before .before .before .before .loop-test .taken), c .before .room .given .1),
+    let test = c .before .before .before .before in
+    let s = test .before .loop in
+    let row = test .before .before .row-size .result in
+    let args = test .before .before .before .before .args in (
+      omega (arith, mul-step (s .left) row (test .loop-test .taken), c .before .room .given .1),
       c .before .room .given .1 ∙ s .inv .1,
-      λ f e.
-          rw (part-back-at (eachRecord f (c .before .before .before .before .before .before .before .before .args .n) (withCount 0)) (s .at) row (s .room) _ (c .before .before .clear-each .ensures f e))
-          (parts-step _ _ _ _ _ _ (c .before .before .before .before .loop-test .taken) (s .inv .2 f e)),
+      rw (part-back-at (cleared (args .timing) (args .n)) (s .at) row (s .room) _ (c .before .before .clear-each .ensures))
+          (parts-step _ _ _ _ _ _ (test .loop-test .taken) (s .inv .2)),
     )
 
 same-length : tie.Need-same-length Inv-loop μ-loop
 same-length c = c .before .loop .inv .1
 
 returns : tie.Need-returns Inv-loop μ-loop
-returns c = λ f e. parts-done _ _ _ _ _ _ (c .loop-test .left) (c .before .loop .inv .2 f e)
+returns c = parts-done _ _ _ _ _ _ (c .loop-test .left) (c .before .loop .inv .2)
 
 pub clear-rows-spec : {M : Type 1} → statement M
 clear-rows-spec =

@@ -8,47 +8,49 @@ use borrow.Author.Needs.{needs}
 use Rattle.ring.proofs.advance.Statement.{statement}
 use Rattle.ring.proofs.advance.Tie as tie
 
-slice-read-wide : tie.Need-slice-read-wide
-slice-read-wide c = search needs
+slots-requires : tie.Need-slots-requires
+slots-requires c κs = search needs
 
-wide-requires : tie.Need-wide-requires
-wide-requires c κs = search needs
+current-requires : tie.Need-current-requires
+current-requires c κs = search needs
 
-slice-read-wide-2 : tie.Need-slice-read-wide-2
-slice-read-wide-2 c = search needs
-
-wide-requires-2 : tie.Need-wide-requires-2
-wide-requires-2 c κs = search needs
-
-slice-read-wide-3 : tie.Need-slice-read-wide-3
-slice-read-wide-3 c = search needs
-
-wide-requires-3 : tie.Need-wide-requires-3
-wide-requires-3 c κs = search needs
+depth-requires : tie.Need-depth-requires
+depth-requires c κs = search needs
 
 next-row-requires : tie.Need-next-row-requires
 next-row-requires c κs = search needs
 
 row-start-requires : tie.Need-row-start-requires
 row-start-requires c κs =
-    (omega arith, omega (arith, nextRow-lt (c .before .wide3 .result) (c .before .before .before .wide2 .result) (omega arith)))
+    let d = c .before in
+    (omega arith, omega (arith, nextRow-lt (d .depth .result) (d .before .before .current .result) (omega arith)))
 
 row-start-requires-2 : tie.Need-row-start-requires-2
 row-start-requires-2 c κs = search needs
 
 -- the rows, before the copy
 rows : (c : tie.After-row-start2)
-    → Next (c .before .before .before .before .before .before .before .before .before .before .before .args .room .now) (c .before .before .before .before .wide3 .result) (c .before .before .before .before .before .before .before .before .wide .result) (c .before .before .before .before .before .before .wide2 .result) (c .before .before .before .next-row .result)
-    (c .row-start2 .result) (c .before .before .row-start .result)
+    → let to = c .before .before in
+    let next = to .before in
+    let d = next .before in
+    let row = d .before .before in
+    let n = row .before .before in
+    Next (n .before .before .before .args .room .now) (d .depth .result) (n .slots .result) (row .current .result) (next .next-row .result)
+    (c .row-start2 .result) (to .row-start .result)
 rows c =
+    let to = c .before .before in
+    let next = to .before in
+    let d = next .before in
+    let row = d .before .before in
+    let n = row .before .before in
     record {
-      facts = c .before .before .before .before .before .before .before .before .before .before .before .pre;
-      rows = c .before .before .before .before .wide3 .ensures .0;
-      count = c .before .before .before .before .before .before .before .before .wide .ensures .0;
-      row = c .before .before .before .before .before .before .wide2 .ensures .0;
-      ahead = c .before .before .before .next-row .ensures;
+      facts = n .before .before .before .pre;
+      rows = d .depth .ensures .0;
+      count = n .slots .ensures .0;
+      row = row .current .ensures .0;
+      ahead = next .next-row .ensures;
       source = c .row-start2 .ensures;
-      target = c .before .before .row-start .ensures;
+      target = to .row-start .ensures;
     }
 
 copy-records-requires : tie.Need-copy-records-requires
@@ -56,8 +58,8 @@ copy-records-requires c κs = copy-fits (rows c)
 
 cast-room : tie.Need-cast-room
 cast-room c =
-    let next = c .before .before .before .before .before .before in
-    omega (arith, nextRow-lt (next .before .wide3 .result) (next .before .before .before .wide2 .result) (omega arith))
+    let d = c .before .before .before .before .before .before .before in
+    omega (arith, nextRow-lt (d .depth .result) (d .before .before .current .result) (omega arith))
 
 slice-write-room : tie.Need-slice-write-room
 slice-write-room c = search needs
@@ -66,10 +68,7 @@ row-size-requires : tie.Need-row-size-requires
 row-size-requires c κs = search needs
 
 add-e : tie.Need-add-e
-add-e c =
-    let placed = c .before .before .before .before in
-    let start = placed .before .before .before .before .before .before .before .before .before .before .before in
-    omega (arith, next-fits (rows placed), c .row-size .ensures)
+add-e c = omega (arith, next-fits (rows (c .before .before .before .before)), c .row-size .ensures)
 
 sub-age-row : tie.Need-sub-age-row
 sub-age-row c = search needs
@@ -99,12 +98,9 @@ pub advance-spec : {M : Type 1} → statement M
 advance-spec =
     tie.close
     (tie.spec
-    slice-read-wide
-    wide-requires
-    slice-read-wide-2
-    wide-requires-2
-    slice-read-wide-3
-    wide-requires-3
+    slots-requires
+    current-requires
+    depth-requires
     next-row-requires
     row-start-requires
     row-start-requires-2

@@ -4,7 +4,7 @@ use mathlib.Core.Path.{_≡_, refl, sym, _∙_}
 use native.Mathlib.Omega.{arith}
 use lib.ListN.{length}
 use Rattle.paper.specs.Parts.{onParts}
-use Rattle.paper.specs.Room.{slotSize}
+use Rattle.paper.specs.Room.{headSize, slotSize}
 use Rattle.paper.proofs.Parts.{parts-step, parts-done, part-back-at, length-lent}
 use Rattle.ring.specs.Slot.{agedSlot}
 use Rattle.ring.proofs.Turn.{aged-once}
@@ -12,7 +12,9 @@ use Rattle.ring.proofs.age_row.Statement.{statement}
 use Rattle.ring.proofs.age_row.Tie as tie
 
 abbrev Inv-loop : tie.InvT-loop
-Inv-loop row₀ n at₀ left₀ row at left = (at + left * slotSize ≤ length row) × ((length row ≡ length row₀) × (onParts (agedSlot 1) slotSize n 8 row₀ ≡ onParts (agedSlot 1) slotSize left at row))
+Inv-loop row₀ n at₀ left₀ row at left =
+    (at + left * slotSize ≤ length row)
+    × ((length row ≡ length row₀) × (onParts (agedSlot 1) slotSize n headSize row₀ ≡ onParts (agedSlot 1) slotSize left at row))
 
 abbrev μ-loop : tie.MeasureT-loop
 μ-loop row₀ n at₀ left₀ row at left = left

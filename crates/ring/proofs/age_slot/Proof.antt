@@ -1,7 +1,8 @@
 -- Each record is lent as its part of the slot.
 use mathlib.Core.Path.{refl, ap, _∙_}
 use Rattle.paper.specs.Parts.{onPart}
-use Rattle.paper.specs.Record.{CED, Timing, aged}
+use Rattle.paper.specs.Record.{CED, Timing, size, aged}
+use Rattle.paper.specs.Room.{base}
 use Rattle.paper.proofs.Parts.{part-back}
 use borrow.Author.Needs.{needs}
 use Rattle.ring.proofs.age_slot.Statement.{statement}
@@ -36,9 +37,12 @@ same-length c = search needs
 
 returns : tie.Need-returns
 returns c =
-    let args = c .before .before .before .before .before .before .before .before .before .args in
-    part-back (aged Timing (args .by)) 77 23 23 _ _ refl (c .before .before .age-timing .ensures)
-    ∙ ap (onPart (aged Timing (args .by)) 77 23) (part-back (aged CED (args .by)) 0 77 77 (args .slot .now) (c .before .before .before .before .before .before .age-ced .last .0) refl (c .before .before .before .before .before .before .age-ced .ensures))
+    let ced = c .before .before .before .before .before .before in
+    let args = ced .before .before .before .args in
+    let older = aged Timing (args .by) in
+    part-back older (base Timing) (size Timing) (size Timing) _ _ refl (c .before .before .age-timing .ensures)
+    ∙ ap (onPart older (base Timing) (size Timing))
+    (part-back (aged CED (args .by)) (base CED) (size CED) (size CED) (args .slot .now) (ced .age-ced .last .0) refl (ced .age-ced .ensures))
 
 pub age-slot-spec : {M : Type 1} → statement M
 age-slot-spec =

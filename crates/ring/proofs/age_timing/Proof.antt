@@ -23,7 +23,8 @@ returns : tie.Need-returns
 returns c =
     let start = c .before .before .before .before .before .before .before .before in
     c .before .before .put-ages .ensures
-    ∙ aged-by Timing (start .args .by) (start .args .rec .now) _ (c .before .before .before .older .ensures ∙ ap (map (older (start .args .by))) (c .before .before .before .before .before .ages .ensures))
+    ∙ aged-by Timing (start .args .by) (start .args .rec .now) _
+    (c .before .before .before .older .ensures ∙ ap (map (older (start .args .by))) (c .before .before .before .before .before .ages .ensures))
 
 pub age-timing-spec : {M : Type 1} → statement M
 age-timing-spec =

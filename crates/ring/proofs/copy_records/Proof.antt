@@ -4,6 +4,7 @@ use mathlib.Core.Path.{_≡_, refl, _∙_}
 use native.Mathlib.Omega.{arith}
 use lib.ListN.{length, drop, length-set}
 use lib.Seq.{paste, paste-zero}
+use Rattle.paper.specs.Room.{headSize, slotSize}
 use Rattle.paper.specs.Feed.{copied}
 use Rattle.paper.proofs.Parts.{copy-turn, copy-done}
 use Rattle.ring.proofs.Turn.{records-apart}
@@ -26,7 +27,7 @@ mul-w : tie.Need-mul-w Inv-loop μ-loop
 mul-w c = omega arith
 
 loop-holds : tie.Need-loop-holds Inv-loop μ-loop
-loop-holds c = (zero-le, (refl, paste-zero _ (c .args .to + 8) (drop (c .args .from + 8) (c .args .room .now))))
+loop-holds c = (zero-le, (refl, paste-zero _ (c .args .to + headSize) (drop (c .args .from + headSize) (c .args .room .now))))
 
 add-room : tie.Need-add-room Inv-loop μ-loop
 add-room c = omega arith
@@ -48,12 +49,17 @@ loop-less c = omega arith
 
 loop-again : tie.Need-loop-again Inv-loop μ-loop
 loop-again c =
-    let args = c .before .before .before .args in
-    let apart = records-apart (args .n) (args .from) (args .to) (c .before .before .before .pre .0) in (
+    let start = c .before .before .before in
+    let args = start .args in
+    let here = c .before .before .loop in
+    let a = args .from + headSize in
+    let b = args .to + headSize in
+    let apart = records-apart (args .n) (args .from) (args .to) (start .pre .0) in (
       omega arith,
       (
         simp length-set (omega arith),
-        copy-turn (args .room .now) _ (args .from + 8) (args .to + 8) (args .n * 100) (c .before .before .loop .i) apart (omega arith) (omega arith) (c .before .loop-test .taken) (c .before .before .loop .inv .1 .1),
+        copy-turn (args .room .now) _ a b (args .n * slotSize) (here .i) apart (omega arith) (omega arith) (c .before .loop-test .taken)
+            (here .inv .1 .1),
       ),
     )
 
@@ -64,8 +70,8 @@ returns : tie.Need-returns Inv-loop μ-loop
 unfolding copied
 returns c =
     let args = c .before .before .args in
-    let e : c .before .loop .i ≡ args .n * 100 = omega arith in
-    c .before .loop .inv .1 .1 ∙ rw e (copy-done (args .room .now) (args .from + 8) (args .to + 8) (args .n * 100))
+    let e : c .before .loop .i ≡ args .n * slotSize = omega arith in
+    c .before .loop .inv .1 .1 ∙ rw e (copy-done (args .room .now) (args .from + headSize) (args .to + headSize) (args .n * slotSize))
 
 pub copy-records-spec : {M : Type 1} → statement M
 copy-records-spec =

@@ -11,17 +11,11 @@ use borrow.Author.Needs.{needs}
 use Rattle.ring.proofs.mark_current.Statement.{statement}
 use Rattle.ring.proofs.mark_current.Tie as tie
 
-slice-read-wide : tie.Need-slice-read-wide
-slice-read-wide c = search needs
+slots-requires : tie.Need-slots-requires
+slots-requires c κs = search needs
 
-wide-requires : tie.Need-wide-requires
-wide-requires c κs = search needs
-
-slice-read-wide-2 : tie.Need-slice-read-wide-2
-slice-read-wide-2 c = search needs
-
-wide-requires-2 : tie.Need-wide-requires-2
-wide-requires-2 c κs = search needs
+current-requires : tie.Need-current-requires
+current-requires c κs = search needs
 
 row-start-requires : tie.Need-row-start-requires
 row-start-requires c κs = search needs
@@ -30,13 +24,14 @@ row-size-requires : tie.Need-row-size-requires
 row-size-requires c κs = search needs
 
 -- the current row lies within the room
-ends : (c : tie.After-row-size) → c .before .row-start .result + c .row-size .result ≤ length (c .before .before .before .before .before .before .before .args .room .now)
+ends : (c : tie.After-row-size)
+    → c .before .row-start .result + c .row-size .result ≤ length (c .before .before .before .before .before .before .before .args .room .now)
 ends c =
     let row = c .before .before in
-    let count = row .before .before in
-    let start = count .before .before .before in
-    let h : row .wide2 .result < depth (start .args .room .now) = omega (arith, start .pre .inRing) in
-    row-ends (start .args .room .now) _ _ _ _ (count .wide .ensures .0) (c .before .row-start .ensures) (c .row-size .ensures) (start .pre) h
+    let n = row .before .before in
+    let start = n .before .before .before in
+    let h : row .current .result < depth (start .args .room .now) = omega (arith, start .pre .inRing) in
+    row-ends (start .args .room .now) _ _ _ _ (n .slots .ensures .0) (c .before .row-start .ensures) (c .row-size .ensures) (start .pre) h
 
 add-e : tie.Need-add-e
 add-e c = omega (arith, ends c)
@@ -59,26 +54,22 @@ same-length c = search needs
 returns : tie.Need-returns
 unfolding currentMarked
 returns c =
-    let sized = c .before .before .before .before in
-    let placed = sized .before in
-    let row = placed .before in
-    let count = row .before .before in
-    let start = count .before .before .before in
-    let marked = c .before .before in (
-      row .wide2 .ensures .0,
-      part-back-at (markedAt (start .args .week) (start .args .time)) (placed .row-start .result) (sized .row-size .result) (start .args .room .now)
-          (marked .mark-row .last .0) (marked .mark-row .ensures)
-          ∙ rw (placed .row-start .ensures, sized .row-size .ensures, count .wide .ensures .0, row .wide2 .ensures .0),
-    )
+    let marked = c .before .before in
+    let size = marked .before .before in
+    let at = size .before in
+    let row = at .before in
+    let n = row .before .before in
+    let args = n .before .before .before .args in
+    part-back-at (markedAt (args .week) (args .time)) (at .row-start .result) (size .row-size .result) (args .room .now)
+    (marked .mark-row .last .0) (marked .mark-row .ensures)
+    ∙ rw (at .row-start .ensures, size .row-size .ensures, n .slots .ensures .0, row .current .ensures .0)
 
 pub mark-current-spec : {M : Type 1} → statement M
 mark-current-spec =
     tie.close
     (tie.spec
-    slice-read-wide
-    wide-requires
-    slice-read-wide-2
-    wide-requires-2
+    slots-requires
+    current-requires
     row-start-requires
     row-size-requires
     add-e

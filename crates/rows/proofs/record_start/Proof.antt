@@ -1,31 +1,22 @@
--- A timing record lies behind the CED record of its slot.
+-- `rows::record_start` meets its contract: a record lies in its slot, and its slot at a number that fits.
 use native.Mathlib.Omega.{arith}
+use Rattle.paper.specs.Record.{familyIf}
+use Rattle.paper.proofs.Views.{slot-fits}
 use borrow.Author.Needs.{needs}
 use Rattle.rows.proofs.record_start.Statement.{statement}
 use Rattle.rows.proofs.record_start.Tie as tie
 
-mul-result : tie.Need-mul-result
-mul-result c = search needs
+slot-start-requires : tie.Need-slot-start-requires
+slot-start-requires c κs = search needs
+
+base-requires : tie.Need-base-requires
+base-requires c κs = search needs
 
 add-result : tie.Need-add-result
-add-result c = search needs
-
-add-result-2 : tie.Need-add-result-2
-add-result-2 c = search needs
+add-result c = omega (arith, slot-fits (familyIf (c .before .before .args .timing)))
 
 returns : tie.Need-returns
-returns c = rw (c .if1 .taken)
-
-mul-result-2 : tie.Need-mul-result-2
-mul-result-2 c = search needs
-
-add-result-3 : tie.Need-add-result-3
-add-result-3 c = search needs
-
-returns-2 : tie.Need-returns-2
-returns-2 c = rw (c .if1 .left) (omega arith)
+returns c = search needs
 
 pub record-start-spec : {M : Type 1} → statement M
-record-start-spec =
-    tie.close
-    (tie.spec mul-result add-result add-result-2 returns mul-result-2 add-result-3 returns-2)
+record-start-spec = tie.close (tie.spec slot-start-requires base-requires add-result returns)

@@ -1,7 +1,7 @@
--- `size`: in 64 bits the negation of any i32 fits, and what comes back fits a u64.
+-- `size`: in 64 bits the negation of any i32 fits, and what comes back fits a u32.
 use mir.Syntax.{w32}
 use mir.Facts.{toZ-ofZ, sfits-widen, fits-natAbs}
-use Rattle.gst.proofs.Integers.{negated-fits, negated-size, not-below, widened}
+use Rattle.signs.proofs.Integers.{negated-fits, negated-size, not-below, widened}
 use Rattle.signs.proofs.size.Statement.{statement}
 use Rattle.signs.proofs.size.Tie as tie
 

@@ -13,18 +13,12 @@ returns : tie.Need-returns
 unfolding isEmpty
 returns c = simp (sym (c .before .holds .ensures), ne-eqb _ _ (c .if1 .taken))
 
-sub-read32 : tie.Need-sub-read32
-sub-read32 c = search needs
-
 read32-requires : tie.Need-read32-requires
 read32-requires c κs = search needs
 
 returns-2 : tie.Need-returns-2
 unfolding isEmpty
 returns-2 c = simp (sym (c .before .before .before .holds .ensures), eq-eqb _ _ (c .before .before .if1 .left), sym (c .before .read32 .ensures), ne-eqb _ _ (c .if2 .taken))
-
-sub-result : tie.Need-sub-result
-sub-result c = search needs
 
 shared-slice-read-result : tie.Need-shared-slice-read-result
 shared-slice-read-result c = search needs
@@ -40,9 +34,7 @@ is-empty-spec =
     (tie.spec
     holds-requires
     returns
-    sub-read32
     read32-requires
     returns-2
-    sub-result
     shared-slice-read-result
     returns-3)

@@ -16,18 +16,12 @@ returns : tie.Need-returns
 unfolding isShared
 returns c = simp (ne-eqb _ _ (c .if1 .taken))
 
-sub-if2 : tie.Need-sub-if2
-sub-if2 c = search needs
-
 shared-slice-read-if2 : tie.Need-shared-slice-read-if2
 shared-slice-read-if2 c = search needs
 
 returns-2 : tie.Need-returns-2
 unfolding isShared
 returns-2 c = simp (eq-eqb _ _ (c .before .before .if1 .left), ne-eqb _ _ (c .if2 .taken))
-
-sub-result : tie.Need-sub-result
-sub-result c = search needs
 
 shared-slice-read-result : tie.Need-shared-slice-read-result
 shared-slice-read-result c = search needs
@@ -42,9 +36,7 @@ is-shared-spec =
     shared-slice-read-if1
     shared-slice-read-if1-2
     returns
-    sub-if2
     shared-slice-read-if2
     returns-2
-    sub-result
     shared-slice-read-result
     returns-3)

@@ -8,15 +8,15 @@ use borrow.Author.Tests.{le-leb, lt-leb, not-true, not-false}
 use lib.Dec.{leb}
 use lib.ListN.{length}
 use Rattle.paper.specs.Parts.{allParts}
-use Rattle.paper.specs.Room.{rowSize, roomSize, depth, slots}
+use Rattle.paper.specs.Room.{headerSize, rowSize, roomSize, depth, slots}
 use Rattle.paper.specs.Store.{headerInRange, headerZeros, rowAllowed, isStore}
 use Rattle.store.proofs.is_store.Statement.{statement}
 use Rattle.store.proofs.is_store.Tie as tie
 
 -- a room whose header is in order: its length and its rows decide
 behind-header : (room : List ℕ) (d n : ℕ) → d ≡ depth room → n ≡ slots room
-    → leb 8 (length room) ≡ true → headerInRange room ≡ true → headerZeros room ≡ true
-    → isStore room ≡ (leb (roomSize d n) (length room) && allParts (rowAllowed n) (rowSize n) d 8 room)
+    → leb headerSize (length room) ≡ true → headerInRange room ≡ true → headerZeros room ≡ true
+    → isStore room ≡ (leb (roomSize d n) (length room) && allParts (rowAllowed n) (rowSize n) d headerSize room)
 unfolding isStore
 behind-header room d n p q a b c = rw (a, b, c, p, q)
 
@@ -43,29 +43,29 @@ returns-3 c =
       sym (c .before .header-zeros .ensures) ∙ not-true _ (c .if3 .taken),
     )
 
-shared-slice-read-wide : tie.Need-shared-slice-read-wide
-shared-slice-read-wide c = search needs
+depth-requires : tie.Need-depth-requires
+depth-requires c κs = search needs
 
-wide-requires : tie.Need-wide-requires
-wide-requires c κs = search needs
+slots-requires : tie.Need-slots-requires
+slots-requires c κs = search needs
 
-shared-slice-read-wide-2 : tie.Need-shared-slice-read-wide-2
-shared-slice-read-wide-2 c = search needs
-
-wide-requires-2 : tie.Need-wide-requires-2
-wide-requires-2 c κs = search needs
-
-row-start-requires : tie.Need-row-start-requires
-row-start-requires c κs = search needs
+room-size-requires : tie.Need-room-size-requires
+room-size-requires c κs = search needs
 
 returns-4 : tie.Need-returns-4
 returns-4 c =
+    let start = c .before .room-size in
+    let n = c .before .before in
+    let d = n .before in
+    let third = d .before in
+    let second = third .before .before in
+    let first = second .before .before in
+    let room = first .before .before .args .room .now in
     rw (
-      behind-header (c .before .before .before .before .before .before .before .before .before .before .before .before .args .room .now) _ _ (c .before .before .before .before .wide .ensures .0) (c .before .before .wide2 .ensures .0)
-          (le-leb _ _ (c .before .before .before .before .before .before .before .before .before .before .if1 .left))
-          (sym (c .before .before .before .before .before .before .before .before .before .header-in-range .ensures) ∙ not-false _ (c .before .before .before .before .before .before .before .before .if2 .left))
-          (sym (c .before .before .before .before .before .before .before .header-zeros .ensures) ∙ not-false _ (c .before .before .before .before .before .before .if3 .left)),
-      lt-leb _ _ (rw (c .before .row-start .ensures) at (c .if4 .taken)),
+      behind-header room _ _ (d .depth .ensures .0) (n .slots .ensures .0) (le-leb _ _ (first .if1 .left))
+          (sym (second .before .header-in-range .ensures) ∙ not-false _ (second .if2 .left))
+          (sym (third .before .header-zeros .ensures) ∙ not-false _ (third .if3 .left)),
+      lt-leb _ _ (rw (start .ensures) at (c .if4 .taken)),
     )
 
 rows-allowed-requires : tie.Need-rows-allowed-requires
@@ -73,12 +73,18 @@ rows-allowed-requires c κs = search needs
 
 returns-5 : tie.Need-returns-5
 returns-5 c =
+    let start = c .before .before .room-size in
+    let n = c .before .before .before in
+    let d = n .before in
+    let third = d .before in
+    let second = third .before .before in
+    let first = second .before .before in
+    let room = first .before .before .args .room .now in
     rw (
-      behind-header (c .before .before .before .before .before .before .before .before .before .before .before .before .before .args .room .now) _ _ (c .before .before .before .before .before .wide .ensures .0) (c .before .before .before .wide2 .ensures .0)
-          (le-leb _ _ (c .before .before .before .before .before .before .before .before .before .before .before .if1 .left))
-          (sym (c .before .before .before .before .before .before .before .before .before .before .header-in-range .ensures) ∙ not-false _ (c .before .before .before .before .before .before .before .before .before .if2 .left))
-          (sym (c .before .before .before .before .before .before .before .before .header-zeros .ensures) ∙ not-false _ (c .before .before .before .before .before .before .before .if3 .left)),
-      le-leb _ _ (rw (c .before .before .row-start .ensures) at (c .before .if4 .left)),
+      behind-header room _ _ (d .depth .ensures .0) (n .slots .ensures .0) (le-leb _ _ (first .if1 .left))
+          (sym (second .before .header-in-range .ensures) ∙ not-false _ (second .if2 .left))
+          (sym (third .before .header-zeros .ensures) ∙ not-false _ (third .if3 .left)),
+      le-leb _ _ (rw (start .ensures) at (c .before .if4 .left)),
     )
     (c .rows-allowed .ensures)
 
@@ -91,11 +97,9 @@ is-store-spec =
     returns-2
     header-zeros-requires
     returns-3
-    shared-slice-read-wide
-    wide-requires
-    shared-slice-read-wide-2
-    wide-requires-2
-    row-start-requires
+    depth-requires
+    slots-requires
+    room-size-requires
     returns-4
     rows-allowed-requires
     returns-5)

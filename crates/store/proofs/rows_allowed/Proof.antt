@@ -6,14 +6,14 @@ use borrow.Author.Tests.{not-true, not-false}
 use lib.ListN.{length}
 use Rattle.paper.proofs.Parts.{mul-step, part-lent, all-stop, all-go, all-done}
 use Rattle.paper.specs.Parts.{allParts}
-use Rattle.paper.specs.Room.{rowSize}
+use Rattle.paper.specs.Room.{headerSize, rowSize}
 use Rattle.paper.specs.Store.{rowAllowed}
 use Rattle.store.proofs.rows_allowed.Statement.{statement}
 use Rattle.store.proofs.rows_allowed.Tie as tie
 
 abbrev Inv-loop : tie.InvT-loop
 Inv-loop room d n row at₀ left₀ at left =
-    (at + left * row ≤ length room) × (allParts (rowAllowed n) (rowSize n) d 8 room ≡ allParts (rowAllowed n) row left at room)
+    (at + left * row ≤ length room) × (allParts (rowAllowed n) (rowSize n) d headerSize room ≡ allParts (rowAllowed n) row left at room)
 
 abbrev μ-loop : tie.MeasureT-loop
 μ-loop room d n row at₀ left₀ at left = left
@@ -24,7 +24,7 @@ row-size-requires c κs = omega arith
 loop-holds : tie.Need-loop-holds Inv-loop μ-loop
 loop-holds c =
     let start = c .before .before .args in
-    (simp (c .row-size .ensures) (omega arith), ap (λ (k : ℕ). allParts (rowAllowed (start .n)) k (start .d) 8 (start .room .now)) (sym (c .row-size .ensures)))
+    (simp (c .row-size .ensures) (omega arith), ap (λ (k : ℕ). allParts (rowAllowed (start .n)) k (start .d) headerSize (start .room .now)) (sym (c .row-size .ensures)))
 
 add-e : tie.Need-add-e Inv-loop μ-loop
 add-e c = omega (arith, mul-step (c .before .loop .left) (c .before .before .row-size .result) (c .loop-test .taken))

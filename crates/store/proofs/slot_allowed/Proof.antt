@@ -51,9 +51,11 @@ record-allowed-requires-2 c κs = search needs
 returns-2 : tie.Need-returns-2
 unfolding slotAllowed
 returns-2 c =
+    let start = c .before .before .before .before .before .before in
+    let slot = start .args .slot .now in
     simp (
-      sym (c .before .before .before .record-allowed .ensures CED (kind-long CED (c .before .before .before .before .before .before .args .slot .now) (c .before .before .before .before .before .before .pre))) ∙ not-false _ (c .before .before .if1 .left),
-      c .record-allowed2 .ensures Timing (kind-long Timing (c .before .before .before .before .before .before .args .slot .now) (c .before .before .before .before .before .before .pre)),
+      sym (c .before .before .before .record-allowed .ensures CED (kind-long CED slot (start .pre))) ∙ not-false _ (c .before .before .if1 .left),
+      c .record-allowed2 .ensures Timing (kind-long Timing slot (start .pre)),
     )
 
 pub slot-allowed-spec : {M : Type 1} → statement M

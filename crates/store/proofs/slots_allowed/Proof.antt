@@ -7,7 +7,7 @@ use borrow.Author.Tests.{not-false}
 use lib.ListN.{length}
 use Rattle.paper.proofs.Parts.{part-lent, length-lent, all-go, all-done}
 use Rattle.paper.specs.Parts.{allParts}
-use Rattle.paper.specs.Room.{slotSize}
+use Rattle.paper.specs.Room.{headSize, slotSize}
 use Rattle.paper.specs.Store.{slotAllowed}
 use Rattle.store.proofs.Slots.{plain-allowed}
 use Rattle.store.proofs.slots_allowed.Statement.{statement}
@@ -16,7 +16,7 @@ use Rattle.store.proofs.slots_allowed.Tie as tie
 abbrev Inv-loop : tie.InvT-loop
 Inv-loop row n most at₀ left₀ at left =
     (at + left * slotSize ≤ length row)
-    × (allParts (slotAllowed most) slotSize n 8 row ≡ allParts (slotAllowed most) slotSize left at row)
+    × (allParts (slotAllowed most) slotSize n headSize row ≡ allParts (slotAllowed most) slotSize left at row)
 
 abbrev μ-loop : tie.MeasureT-loop
 μ-loop row n most at₀ left₀ at left = left

@@ -1,6 +1,8 @@
 -- The record is taken, then the part that the word owns is written.
 use mathlib.Core.Path.{_∙_}
+use Rattle.paper.specs.Record.{CED}
 use Rattle.paper.specs.Word.{fedRecord}
+use Rattle.paper.proofs.WordTable.{owned-inBounds}
 use borrow.Author.Needs.{needs}
 use Rattle.word.proofs.feed_ced.Statement.{statement}
 use Rattle.word.proofs.feed_ced.Tie as tie
@@ -15,7 +17,11 @@ owned-ced-requires : tie.Need-owned-ced-requires
 owned-ced-requires c κs = search needs
 
 write-owned-requires : tie.Need-write-owned-requires
-write-owned-requires c κs = search needs
+write-owned-requires c κs =
+    let part = c .before in
+    let took = part .before .before .before .before in
+    let start = took .before .before .before .before in
+    ((took .take-over-ced .kept .0 ∙ start .pre .0, start .pre .1), rw (part .owned-ced .ensures 0) (owned-inBounds CED _ _))
 
 same-length : tie.Need-same-length
 same-length c = search needs
@@ -23,8 +29,11 @@ same-length c = search needs
 returns : tie.Need-returns
 unfolding fedRecord
 returns c band =
-    c .before .before .write-owned .ensures
-    ∙ rw (c .before .before .before .before .owned-ced .ensures .0 band, c .before .before .before .before .before .type-of .ensures, c .before .before .before .before .before .before .before .before .take-over-ced .ensures)
+    let wrote = c .before .before in
+    let part = wrote .before .before in
+    let took = part .before .before .before .before in
+    wrote .write-owned .ensures
+    ∙ rw (part .owned-ced .ensures band, part .before .type-of .ensures, took .take-over-ced .ensures)
 
 pub feed-ced-spec : {M : Type 1} → statement M
 feed-ced-spec =

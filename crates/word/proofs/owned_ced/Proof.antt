@@ -24,28 +24,28 @@ line-requires-5 c κs = search needs
 
 returns : tie.Need-returns
 unfolding ownedIn table
-returns c = rw (c .line .ensures, c .before .match .keys1) ((λ band. refl), omega arith)
+returns c = rw (c .line .ensures, c .before .match .keys1) (λ band. refl)
 
 returns-2 : tie.Need-returns-2
 unfolding ownedIn table
-returns-2 c = rw (c .line2 .ensures, c .before .match .keys2) ((λ band. refl), omega arith)
+returns-2 c = rw (c .line2 .ensures, c .before .match .keys2) (λ band. refl)
 
 returns-3 : tie.Need-returns-3
 unfolding ownedIn table
-returns-3 c = rw (c .line3 .ensures, c .before .match .keys3) ((λ band. refl), omega arith)
+returns-3 c = rw (c .line3 .ensures, c .before .match .keys3) (λ band. refl)
 
 returns-4 : tie.Need-returns-4
 unfolding ownedIn table
-returns-4 c = rw (c .line4 .ensures, c .before .match .keys4) ((λ band. refl), omega arith)
+returns-4 c = rw (c .line4 .ensures, c .before .match .keys4) (λ band. refl)
 
 returns-5 : tie.Need-returns-5
 unfolding ownedIn table
-returns-5 c = rw (c .line5 .ensures, c .before .match .keys5) ((λ band. refl), omega arith)
+returns-5 c = rw (c .line5 .ensures, c .before .match .keys5) (λ band. refl)
 
 returns-6 : tie.Need-returns-6
 returns-6 c =
     let r = c .match .rest in
-    ((λ band. no-ced (c .before .args .kind) band (r .0 .0 .0 .0 .1) (r .0 .0 .0 .1) (r .0 .0 .1) (r .0 .1) (r .1)), tt)
+    λ band. no-ced (c .before .args .kind) band (r .0 .0 .0 .0 .1) (r .0 .0 .0 .1) (r .0 .0 .1) (r .0 .1) (r .1)
 
 pub owned-ced-spec : {M : Type 1} → statement M
 owned-ced-spec =

@@ -26,8 +26,9 @@ same-length-2 c = search needs
 
 returns-2 : tie.Need-returns-2
 returns-2 c =
-    let t = c .before .before .before .before .before .before .before .take .ensures in
-    c .before .before .put-ages .ensures ∙ taken-over CED _ _ _ _ (t .0) (t .1) (c .before .before .before .before .before .before .before .before .before .before .pre) (not-false _ (c .before .before .before .before .if1 .left))
+    let test = c .before .before .before .before in
+    let t = test .before .before .before .take .ensures in
+    c .before .before .put-ages .ensures ∙ taken-over CED _ _ _ _ (t .0) (t .1) (not-false _ (test .if1 .left))
 
 pub take-over-ced-spec : {M : Type 1} → statement M
 take-over-ced-spec =

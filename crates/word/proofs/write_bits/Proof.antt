@@ -5,8 +5,8 @@ use Prim.Native.Nat.{_-_}
 use lib.ListN.{length, length-set, length-take, length-drop}
 use borrow.Author.Needs.{needs}
 use Rattle.paper.specs.Record.{familyIf, dataBytes}
-use Rattle.paper.proofs.Views.{record-parts}
-use Rattle.word.proofs.Sizes.{bits-fit}
+use Rattle.paper.proofs.Views.{bits-and-bytes}
+use Rattle.word.proofs.Sizes.{short}
 use Rattle.word.proofs.Written.{written-back}
 use Rattle.word.proofs.write_bits.Statement.{statement}
 use Rattle.word.proofs.write_bits.Tie as tie
@@ -15,10 +15,10 @@ data-at-requires : tie.Need-data-at-requires
 data-at-requires c κs = search needs
 
 sub-move-bits : tie.Need-sub-move-bits
-sub-move-bits c = omega (arith, record-parts (familyIf (c .before .before .before .args .timing)))
+sub-move-bits c = search needs
 
 part-move-bits-start : tie.Need-part-move-bits-start
-part-move-bits-start c = omega (arith, record-parts (familyIf (c .before .before .before .args .timing)))
+part-move-bits-start c = search needs
 
 part-move-bits-end : tie.Need-part-move-bits-end
 part-move-bits-end c = search needs
@@ -28,25 +28,25 @@ move-bits-requires c κs =
     let s = c .before .before .before .before in
     let f = familyIf (s .args .timing) in
     simp (length-take, length-drop)
-    (omega (arith, record-parts f, bits-fit f, c .before .data-at .ensures, s .pre))
+    (omega (arith, short f, bits-and-bytes f, c .before .data-at .ensures, s .pre))
 
 add-bytes : tie.Need-add-bytes
 add-bytes c =
     let s = c .before .before .before .before .before .before .before in
     let f = familyIf (s .args .timing) in
-    omega (arith, record-parts f, bits-fit f, s .pre)
+    omega (arith, short f, bits-and-bytes f, s .pre)
 
 slice-write-bytes : tie.Need-slice-write-bytes
 slice-write-bytes c =
     let s = c .before .before .before .before .before .before .before in
     let f = familyIf (s .args .timing) in
-    omega (arith, record-parts f, s .pre, c .before .bytes .given)
+    omega (arith, s .pre, c .before .bytes .given)
 
 clear-count-if-requires : tie.Need-clear-count-if-requires
 clear-count-if-requires c κs =
     let s = c .before .before .before .before .before .before .before .before in
     let f = familyIf (s .args .timing) in
-    simp length-set (omega (arith, record-parts f, s .pre, c .before .before .bytes .given))
+    simp length-set (omega (arith, s .pre, c .before .before .bytes .given))
 
 same-length : tie.Need-same-length
 same-length c = c .before .before .clear-count-if .kept .0 ∙ simp length-set (c .before .before .before .before .before .bytes .given .1)
@@ -57,7 +57,7 @@ returns c =
     let f = familyIf (s .args .timing) in
     let d = c .before .before .before .before .before .before .before .before .data-at in
     let m = c .before .before .before .before .before .before .move-bits .ensures in
-    let e : length (s .args .bytes .now) - d .result ≡ dataBytes f = omega (arith, record-parts f, d .ensures, s .pre) in
+    let e : length (s .args .bytes .now) - d .result ≡ dataBytes f = omega (arith, d .ensures, s .pre) in
     c .before .before .clear-count-if .ensures ∙ written-back f _ _ _ _ _ _ _ _ _ _ (d .ensures) e (m .0) (m .1)
 
 pub write-bits-spec : {M : Type 1} → statement M

@@ -11,7 +11,10 @@ enum-known-part : tie.Need-enum-known-part
 enum-known-part c = search needs
 
 write-bits-requires : tie.Need-write-bits-requires
-write-bits-requires c κs = let p = c .before .before .before .before .before .before .pre in ((p .0, p .1), rw (c .before .before .part .given .1) at (p .2))
+write-bits-requires c κs =
+    let part = c .before .before in
+    let p = part .before .before .before .before .pre in
+    (p .0, rw (part .part .given .1) at (p .1))
 
 returns : tie.Need-returns
 unfolding written
@@ -21,7 +24,9 @@ same-length : tie.Need-same-length
 same-length c = search needs
 
 returns-2 : tie.Need-returns-2
-returns-2 c = rw (c .before .before .before .before .before .part .given .1) (c .before .before .write-bits .ensures)
+returns-2 c =
+    let wrote = c .before .before in
+    rw (wrote .before .before .before .part .given .1) (wrote .write-bits .ensures)
 
 pub write-owned-spec : {M : Type 1} → statement M
 write-owned-spec =

@@ -7,7 +7,7 @@ use mathlib.Core.Path.{sym, _∙_}
 use mir.Facts.{toZ-ofZ}
 use native.Mathlib.Omega.{arith}
 use Rattle.paper.specs.Time.{addSubframes, subframeSeconds, mostSubframes}
-use Rattle.gst.proofs.Integers.{fits, size-product}
+use Rattle.signs.proofs.Integers.{fits, size-product}
 use Rattle.gst.proofs.Gst.add_subframes.Statement.{statement}
 use Rattle.gst.proofs.Gst.add_subframes.Tie as tie
 

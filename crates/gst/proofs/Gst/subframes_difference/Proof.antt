@@ -7,7 +7,7 @@ use mir.Syntax.{w32}
 use mir.Val.{SFits}
 use native.Mathlib.Omega.{arith}
 use Rattle.paper.specs.Time.{difference}
-use Rattle.gst.proofs.Integers.{fits, size-sum}
+use Rattle.signs.proofs.Integers.{fits, size-sum}
 use Rattle.gst.proofs.Gst.subframes_difference.Statement.{statement}
 use Rattle.gst.proofs.Gst.subframes_difference.Tie as tie
 

@@ -1,6 +1,6 @@
 -- `below_zero`: the order's test against 0 is the test of the sign.
 use mir.Facts.{toZ-ofZ}
-use Rattle.gst.proofs.Integers.{below}
+use Rattle.signs.proofs.Integers.{below}
 use Rattle.gst.proofs.signed.below_zero.Statement.{statement}
 use Rattle.gst.proofs.signed.below_zero.Tie as tie
 

@@ -3,7 +3,7 @@ use native.Mathlib.Omega.{arith}
 use lib.IntN.{pos, _*ℤ_}
 use mir.Facts.{toZ-ofZ}
 use Rattle.paper.specs.Time.{subframeSeconds}
-use Rattle.gst.proofs.Integers.{fits, size-product}
+use Rattle.signs.proofs.Integers.{fits, size-product}
 use Rattle.gst.proofs.signed.in_seconds.Statement.{statement}
 use Rattle.gst.proofs.signed.in_seconds.Tie as tie
 

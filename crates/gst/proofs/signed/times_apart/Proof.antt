@@ -10,7 +10,7 @@ use mir.Syntax.{w32}
 use mir.Val.{SFits, toZ}
 use native.Mathlib.Omega.{arith}
 use Rattle.paper.specs.Time.{subframeSeconds, weekSeconds}
-use Rattle.gst.proofs.Integers.{fits, size-difference, size-quotient}
+use Rattle.signs.proofs.Integers.{fits, size-difference, size-quotient}
 use Rattle.gst.proofs.signed.times_apart.Statement.{statement}
 use Rattle.gst.proofs.signed.times_apart.Tie as tie
 

@@ -8,7 +8,7 @@ use mir.Syntax.{w32}
 use mir.Val.{SFits, toZ}
 use native.Mathlib.Omega.{arith}
 use Rattle.paper.specs.Time.{weekSubframes}
-use Rattle.gst.proofs.Integers.{fits, size-difference, size-product}
+use Rattle.signs.proofs.Integers.{fits, size-difference, size-product}
 use Rattle.gst.proofs.signed.weeks_apart.Statement.{statement}
 use Rattle.gst.proofs.signed.weeks_apart.Tie as tie
 

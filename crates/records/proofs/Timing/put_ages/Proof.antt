@@ -1,5 +1,6 @@
 -- `records::Timing::put_ages` meets its contract: the lent part comes back as the ages.
 use mathlib.Core.Path.{refl}
+use Rattle.paper.specs.Record.{Timing, ages, agesAt}
 use Rattle.paper.proofs.Parts.{part-back}
 use borrow.Author.Needs.{needs}
 use Rattle.records.proofs.Timing.put_ages.Statement.{statement}
@@ -27,7 +28,7 @@ same-length : tie.Need-same-length
 same-length c = search needs
 
 returns : tie.Need-returns
-returns c = part-back _ 3 2 2 _ _ refl (c .before .before .copy .ensures)
+returns c = part-back _ agesAt (ages Timing) (ages Timing) _ _ refl (c .before .before .copy .ensures)
 
 pub put-ages-spec : {M : Type 1} → statement M
 put-ages-spec =
