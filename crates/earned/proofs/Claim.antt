@@ -4,7 +4,6 @@ use mathlib.Core.Bool.{Bool, true, _&&_}
 use mathlib.Core.List.{List, [], _∷_, _++_}
 use mathlib.Core.Path.{_≡_, refl}
 use borrow.Author.Tests.{eqb-true}
-use lib.ListN.{replicate}
 use lib.Dec.{eqb}
 use Rattle.paper.specs.Record.{count}
 use Rattle.paper.specs.Call.{run}
@@ -12,7 +11,7 @@ use Rattle.paper.proofs.Opens.{callsOpen}
 use Rattle.paper.proofs.StoreFacts.{both-true}
 use Rattle.history.specs.Line.{at, fills, resets, same, broken, begins, counted, tags, total}
 use Rattle.earned.specs.Examples.{Row, Every, every, fresh, word, two, five, clock, newClock, orbit, newOrbit, forty, sums, copies}
-use Rattle.earned.specs.Examples.{breaks, apart, tagFirst, changeFirst, nextTag, question, table, printed, begun, tagsBefore, tagsAfter, oneRow, sixDone, page}
+use Rattle.earned.specs.Examples.{sevens, breaks, apart, tagFirst, changeFirst, nextTag, question, table, printed, begun, tagsBefore, tagsAfter, oneRow, sixDone, page}
 
 each : (rows : List Row) → every rows ≡ true → Every rows
 unfolding every
@@ -41,6 +40,6 @@ pub examples : Every table
 examples = each table computed
 
 -- the bench input of docs/ANSWER.md gives the lines of that page
-pub answer-page : printed (replicate 230 7) (tagsBefore ++ (tagsAfter ++ oneRow)) ≡ page
+pub answer-page : printed sevens (tagsBefore ++ (tagsAfter ++ oneRow)) ≡ page
 unfolding printed begun tagsBefore tagsAfter oneRow sixDone page word orbit newOrbit callsOpen
 answer-page = refl

@@ -1,5 +1,5 @@
 -- Demand 3 is not empty: lists of calls, with the count of a record after them and the sum of the lengths of the tags on its line.
-use Prim.Native.Nat.{ℕ, zero, suc, _*_}
+use Prim.Native.Nat.{ℕ, zero, suc, _+_, _*_}
 use mathlib.Core.Bool.{Bool, true, false, _&&_}
 use mathlib.Core.List.{List, [], _∷_, _++_}
 use mathlib.Core.Path.{_≡_}
@@ -7,6 +7,7 @@ use lib.ListN.{replicate}
 use lib.Dec.{eqb}
 use Rattle.paper.specs.Record.{CED, Timing, count}
 use Rattle.paper.specs.Number.{number, values}
+use Rattle.paper.specs.Room.{roomSize}
 use Rattle.paper.specs.Call.{Call, freshCall, feedCall, tagCall, askCall, resetCall, answerTo, partTo, roomAfter, run}
 use Rattle.history.specs.Line.{Place, at, tags, total}
 
@@ -34,9 +35,13 @@ every (r ∷ rs) =
     && eqb (total (tags (r .start) (r .calls) (r .place))) (r .sum)
     && rest
 
--- a fresh store of D rows and N slots on a lent room of 230 bytes that held sevens
+-- a lent room of sevens, a few bytes longer than two rows of one slot take
+abbrev pub sevens : List ℕ
+sevens = replicate (roomSize 2 1 + 6) 7
+
+-- a fresh store of D rows and N slots on it
 unfoldable pub fresh : ℕ → ℕ → List ℕ
-fresh d n = roomAfter (freshCall d n) (replicate 230 7)
+fresh d n = roomAfter (freshCall d n) sevens
 
 abbrev row : List ℕ → List Call → Place → ℕ → ℕ → Row
 row start calls place counted sum = record { start = start; calls = calls; place = place; counted = counted; sum = sum }

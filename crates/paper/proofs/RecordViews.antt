@@ -44,7 +44,7 @@ module _ (c : ℕ) (rec : List ℕ) where
   withCount-satellite = put16-other rec countAt c satelliteAt (omega arith) (omega arith)
 
   pub withCount-count : agesAt ≤ length rec → count (withCount c rec) ≡ c
-  withCount-count h = be16-put16 rec countAt c h
+  withCount-count h = be16-put16 rec countAt c (omega arith)
 
   pub withCount-ages : (f : Family) → agesOf f (withCount c rec) ≡ agesOf f rec
   withCount-ages f = ap (take (ages f)) (put16-drop rec countAt c agesAt (omega arith))

@@ -8,7 +8,7 @@ use Prim.Native.Nat.{ℕ, zero, suc, _+_, _≤_, _<_, min, max}
 use lib.ListN.{length, take, drop, getD, set, drop-of-length-le}
 use lib.Seq.{take-suc, take-suc-set, take-all, drop-cons}
 use Rattle.paper.specs.Parts.{onPart}
-use Rattle.paper.specs.Record.{Family, ages, agesOf, older, aged, greatest, least}
+use Rattle.paper.specs.Record.{Family, ages, agesAt, agesOf, older, aged, greatest, least}
 use Rattle.paper.proofs.Parts.{onPart-by}
 
 -- ---- a list copied over another of its length: what was passed is the same in both
@@ -76,6 +76,6 @@ unfolding least
 least-done l i low whole h g e = gather-done min least (λ a b c. omega arith) (λ a l. refl) l i low whole h (omega arith) e
 
 -- ---- a record whose ages are read, made older and written back is the record aged
-pub aged-is : (f : Family) (by : ℕ) (rec : List ℕ) → onPart (λ r. map (older by) (agesOf f rec)) 3 (ages f) rec ≡ aged f by rec
+pub aged-is : (f : Family) (by : ℕ) (rec : List ℕ) → onPart (λ r. map (older by) (agesOf f rec)) agesAt (ages f) rec ≡ aged f by rec
 unfolding aged
-aged-is f by rec = onPart-by (λ r. map (older by) (agesOf f rec)) (map (older by)) 3 (ages f) rec refl
+aged-is f by rec = onPart-by (λ r. map (older by) (agesOf f rec)) (map (older by)) agesAt (ages f) rec refl
