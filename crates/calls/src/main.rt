@@ -8,6 +8,7 @@
 use gst::Gst;
 use gst::Tow;
 use gst::Wn;
+use libc::STDERR_FILENO;
 use libc::STDOUT_FILENO;
 use navmessage::Asked;
 use refusals::Reply;
@@ -26,13 +27,20 @@ const T30: u32 = 175770;
 
 const T60: u32 = 175800;
 
+// A line on standard error where standard output could not be written.
+fn heard(written: bool) {
+    if !written {
+        io::write_all(STDERR_FILENO, b"cannot write to standard output\n");
+    }
+}
+
 fn text(letters: &[u8]) {
-    io::write_all(STDOUT_FILENO, letters);
+    heard(io::write_all(STDOUT_FILENO, letters));
 }
 
 fn number(n: u64) {
     text(b" ");
-    io::print_decimal(STDOUT_FILENO, n);
+    heard(io::print_decimal(STDOUT_FILENO, n));
 }
 
 fn byte(n: u8) {

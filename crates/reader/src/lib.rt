@@ -1,6 +1,7 @@
 // Standard input of the bench program taken apart into records, in pieces of any size, and what is printed for it (document 01,
 // "Bench program"). The programs `bench`, `trace` and `replay` are `run`.
 use layout::MOST_ROOM;
+use libc::STDERR_FILENO;
 use libc::STDIN_FILENO;
 use libc::STDOUT_FILENO;
 use lines::Kind;
@@ -170,7 +171,17 @@ pub fn finish(out: &mut [u8], at: usize, room: &[u8], have: usize, traced: bool)
     next
 }
 
-// One read of standard input, and what is printed for it. A read that brings nothing is the end of the input.
+// Bytes for standard output: whether they could be written. Where they could not, a line on standard error says so.
+fn print(bytes: &[u8]) -> bool {
+    if io::write_all(STDOUT_FILENO, bytes) {
+        return true;
+    }
+    io::write_all(STDERR_FILENO, b"cannot write to standard output\n");
+    false
+}
+
+// One read of standard input, and what is printed for it. A read that brings nothing is the end of the input; one that fails, and a
+// write that fails, stop the program with a line on standard error.
 fn turn(room: &mut [u8], kept: &mut [u8], have: usize, traced: bool) -> Progress
     requires { ⌜ Unfinished (now kept) have ⌝ }
     ensures { λ r. ⌜ Unfinished (now (kept .exit)) (r .kept) ⌝ }
@@ -178,10 +189,18 @@ fn turn(room: &mut [u8], kept: &mut [u8], have: usize, traced: bool) -> Progress
     let mut bytes = [0u8; READ];
     let mut out = [0u8; PRINTED];
     let got = libc::read(STDIN_FILENO, &mut bytes);
+    if got < 0 {
+        io::write_all(STDERR_FILENO, b"cannot read standard input\n");
+        return Progress {
+            kept: have,
+            said: 0,
+            stopped: true,
+        };
+    }
     let n = io::count(got, &bytes);
     if n == 0 {
         let end = finish(&mut out, 0, room, have, traced);
-        io::write_all(STDOUT_FILENO, &out[..end]);
+        print(&out[..end]);
         return Progress {
             kept: have,
             said: 0,
@@ -190,8 +209,12 @@ fn turn(room: &mut [u8], kept: &mut [u8], have: usize, traced: bool) -> Progress
     }
     let progress = take_bytes(room, kept, have, &bytes[..n], &mut out, traced);
     let said = progress.said;
-    io::write_all(STDOUT_FILENO, &out[..said]);
-    progress
+    let printed = print(&out[..said]);
+    Progress {
+        kept: progress.kept,
+        said,
+        stopped: progress.stopped || !printed,
+    }
 }
 
 // The program on the room that it starts with. A proved loop has to end, and nothing says that an input does: it counts its turns

@@ -6,6 +6,7 @@ use gst::NewTime;
 use gst::Start;
 use gst::Tow;
 use gst::Wn;
+use libc::STDERR_FILENO;
 use libc::STDIN_FILENO;
 use libc::STDOUT_FILENO;
 use svn::Satellite;
@@ -16,12 +17,19 @@ ghost use lib.ListN.{length};
 // The bytes of a call: which, week 2, time 4, and a second time or a number in the last four.
 const CALL: usize = 13;
 
+// A line on standard error where standard output could not be written.
+fn heard(written: bool) {
+    if !written {
+        io::write_all(STDERR_FILENO, b"cannot write to standard output\n");
+    }
+}
+
 fn text(letters: &[u8]) {
-    io::write_all(STDOUT_FILENO, letters);
+    heard(io::write_all(STDOUT_FILENO, letters));
 }
 
 fn number(n: u64) {
-    io::print_decimal(STDOUT_FILENO, n);
+    heard(io::print_decimal(STDOUT_FILENO, n));
 }
 
 fn signed(n: i32) {
@@ -111,6 +119,10 @@ fn answer(call: &[u8])
 fn one_call() -> bool {
     let mut call = [0u8; 13];
     if io::read_full(STDIN_FILENO, &mut call) < CALL {
+        // behind the end of the input a read brings nothing, and one that failed fails again
+        if libc::read(STDIN_FILENO, &mut call) < 0 {
+            io::write_all(STDERR_FILENO, b"cannot read standard input\n");
+        }
         return false;
     }
     answer(&call);

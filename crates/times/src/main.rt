@@ -6,6 +6,7 @@ use gst::NewTime;
 use gst::Start;
 use gst::Tow;
 use gst::Wn;
+use libc::STDERR_FILENO;
 use libc::STDOUT_FILENO;
 use svn::Satellite;
 use svn::Svn;
@@ -14,12 +15,19 @@ const LEAST: i32 = -2147483648;
 
 const MOST: i32 = 2147483647;
 
+// A line on standard error where standard output could not be written.
+fn heard(written: bool) {
+    if !written {
+        io::write_all(STDERR_FILENO, b"cannot write to standard output\n");
+    }
+}
+
 fn text(letters: &[u8]) {
-    io::write_all(STDOUT_FILENO, letters);
+    heard(io::write_all(STDOUT_FILENO, letters));
 }
 
 fn number(n: u64) {
-    io::print_decimal(STDOUT_FILENO, n);
+    heard(io::print_decimal(STDOUT_FILENO, n));
 }
 
 fn time(gst: Gst) {
