@@ -8,15 +8,46 @@
 use gst::Gst;
 use gst::Tow;
 use gst::Wn;
+use layout::CURRENT_AT;
+use layout::DEPTH_AT;
+use layout::HEADER;
+use layout::MARK_AT;
+use layout::ROW_HEAD;
+use layout::SLOT;
+use layout::SLOTS_AT;
+use layout::SPARE_AT;
+use layout::TIME_AT;
+use layout::TIMING_AT;
+use layout::WEEK_AT;
+use layout::ZEROS_AT;
 use libc::STDERR_FILENO;
 use libc::STDOUT_FILENO;
 use navmessage::Asked;
+use records::AGES_AT;
+use records::COUNT_AT;
 use refusals::Reply;
 use svn::Svn;
 use tags::Tagged;
 
-// The room: a store of D 2 and N 2 is 424 bytes long, and six bytes behind it are not the store's.
-const ROOM: usize = 430;
+// The room: a store of D 2 and N 2, and six bytes behind it that are not the store's.
+const STORE: usize = HEADER + 2 * (ROW_HEAD + 2 * SLOT);
+
+const ROOM: usize = STORE + 6;
+
+// Where its second row starts, and the records of its slots: slots 0 and 1 of row 0, and slot 0 of row 1.
+const ROW_1: usize = HEADER + ROW_HEAD + 2 * SLOT;
+
+const CED_0: usize = HEADER + ROW_HEAD;
+
+const TIMING_0: usize = CED_0 + TIMING_AT;
+
+const CED_1: usize = CED_0 + SLOT;
+
+const TIMING_1: usize = CED_1 + TIMING_AT;
+
+const NEXT_CED: usize = ROW_1 + ROW_HEAD;
+
+const NEXT_TIMING: usize = NEXT_CED + TIMING_AT;
 
 // A week and a subframe of it, and the two subframes after it.
 const WEEK: u16 = 1177;
@@ -249,8 +280,8 @@ fn spoilt(room: &mut [u8; ROOM], place: usize, value: u8) {
 
 // A fresh store on a room that is a byte short of D 2 and N 2.
 fn fresh_short(d: u8, n: u8) {
-    let mut room = [7; 423];
-    text(b"fresh on 423 bytes");
+    let mut room = [7; STORE - 1];
+    text(b"fresh on a byte less");
     byte(d);
     byte(n);
     text(b":");
@@ -258,18 +289,27 @@ fn fresh_short(d: u8, n: u8) {
     end(&room);
 }
 
-// The calls that are lent the room to write, where a store of D 2 and N 2 lacks its last byte.
-fn every_short() {
-    let mut room = [0; 423];
-    room[0] = 2;
-    room[1] = 2;
+// The calls that are lent the room to write.
+fn every_written(room: &mut [u8]) {
     let word = [4; 16];
     let given = [255; 69];
-    text(b"on 423 bytes:");
-    reply(navmessage::feed(&mut room, &word, Svn(5), at(WEEK, T), 0));
-    tagged(navmessage::tag(&mut room, Svn(5), 0, 15, 40, 2, at(WEEK, T30), &given, true));
-    reply(navmessage::reset_authbits(&mut room));
-    end(&room);
+    reply(navmessage::feed(room, &word, Svn(5), at(WEEK, T), 0));
+    tagged(navmessage::tag(room, Svn(5), 0, 15, 40, 2, at(WEEK, T30), &given, true));
+    reply(navmessage::reset_authbits(room));
+    end(room);
+}
+
+// They on a store of D 2 and N 2 that lacks its last byte, on a header that does, and on no room at all.
+fn every_short() {
+    let mut room = [0; STORE - 1];
+    room[DEPTH_AT] = 2;
+    room[SLOTS_AT] = 2;
+    text(b"on a byte less:");
+    every_written(&mut room);
+    text(b"on less than a header:");
+    every_written(&mut room[0..HEADER - 1]);
+    text(b"on nothing:");
+    every_written(&mut room[0..0]);
 }
 
 // 1, 2 and 0.
@@ -291,39 +331,39 @@ fn fresh_calls(room: &mut [u8; ROOM]) {
 // 3, clause by clause: row 0 is marked and holds E05 in slot 1, row 1 is blank.
 fn no_store(room: &mut [u8; ROOM]) {
     word(room, 4, 255, 5, at(WEEK, T));
-    spoilt(room, 0, 0);
-    spoilt(room, 0, 17);
-    spoilt(room, 0, 3);
-    spoilt(room, 1, 0);
-    spoilt(room, 1, 37);
-    spoilt(room, 2, 2);
-    spoilt(room, 3, 1);
-    spoilt(room, 4, 1);
-    spoilt(room, 5, 1);
-    spoilt(room, 6, 1);
-    spoilt(room, 7, 1);
-    spoilt(room, 8, 2);
-    spoilt(room, 14, 157);
-    spoilt(room, 12, 17);
-    spoilt(room, 15, 1);
+    spoilt(room, DEPTH_AT, 0);
+    spoilt(room, DEPTH_AT, 17);
+    spoilt(room, DEPTH_AT, 3);
+    spoilt(room, SLOTS_AT, 0);
+    spoilt(room, SLOTS_AT, 37);
+    spoilt(room, CURRENT_AT, 2);
+    spoilt(room, ZEROS_AT, 1);
+    spoilt(room, ZEROS_AT + 1, 1);
+    spoilt(room, ZEROS_AT + 2, 1);
+    spoilt(room, ZEROS_AT + 3, 1);
+    spoilt(room, ZEROS_AT + 4, 1);
+    spoilt(room, HEADER + MARK_AT, 2);
+    spoilt(room, HEADER + TIME_AT + 3, 157);
+    spoilt(room, HEADER + TIME_AT + 1, 17);
+    spoilt(room, HEADER + SPARE_AT, 1);
 }
 
-// The rest of 3: 116 is the first byte of slot 1, 216 the mark of row 1, 224 its slot 0.
+// The rest of 3: the records of row 0, then row 1.
 fn no_records(room: &mut [u8; ROOM]) {
-    spoilt(room, 116, 37);
-    spoilt(room, 193, 37);
-    spoilt(room, 17, 1);
-    spoilt(room, 95, 1);
-    spoilt(room, 192, 4);
-    spoilt(room, 215, 1);
-    spoilt(room, 218, 1);
-    spoilt(room, 222, 30);
-    spoilt(room, 223, 1);
-    spoilt(room, 224, 1);
-    spoilt(room, 226, 1);
-    spoilt(room, 301, 1);
-    spoilt(room, 303, 1);
-    spoilt(room, 423, 2);
+    spoilt(room, CED_1, 37);
+    spoilt(room, TIMING_1, 37);
+    spoilt(room, CED_0 + COUNT_AT, 1);
+    spoilt(room, TIMING_0 + COUNT_AT + 1, 1);
+    spoilt(room, TIMING_1 - 1, 4);
+    spoilt(room, ROW_1 - 1, 1);
+    spoilt(room, ROW_1 + WEEK_AT + 1, 1);
+    spoilt(room, ROW_1 + TIME_AT + 3, 30);
+    spoilt(room, ROW_1 + SPARE_AT, 1);
+    spoilt(room, NEXT_CED, 1);
+    spoilt(room, NEXT_CED + COUNT_AT + 1, 1);
+    spoilt(room, NEXT_TIMING, 1);
+    spoilt(room, NEXT_TIMING + COUNT_AT + 1, 1);
+    spoilt(room, STORE - 1, 2);
     text(b"nothing changed:");
     every(room);
 }
@@ -471,8 +511,8 @@ fn one_shown(room: &[u8; ROOM], svn: u8, kind: u8, cop: u8) {
 
 // The count of the CED record of slot 1, and what asking for it says.
 fn one_count(room: &mut [u8; ROOM], v: u8) {
-    room[117] = 0;
-    room[118] = v;
+    room[CED_1 + COUNT_AT] = 0;
+    room[CED_1 + COUNT_AT + 1] = v;
     asked(navmessage::get_ced_and_status(room, Svn(1)));
 }
 
@@ -539,17 +579,17 @@ fn every_value(room: &mut [u8; ROOM]) {
 // ---- rooms that no call makes
 // Slot 0 of row 0 becomes E01's too: zeros with ages of 0, a count of 41 and, in the timing record, of 42.
 fn take_slot_0(room: &mut [u8; ROOM]) {
-    room[16] = 1;
-    room[18] = 41;
-    room[19] = 0;
-    room[20] = 0;
-    room[21] = 0;
-    room[22] = 0;
-    room[23] = 0;
-    room[93] = 1;
-    room[95] = 42;
-    room[96] = 0;
-    room[97] = 0;
+    room[CED_0] = 1;
+    room[CED_0 + COUNT_AT + 1] = 41;
+    room[CED_0 + AGES_AT] = 0;
+    room[CED_0 + AGES_AT + 1] = 0;
+    room[CED_0 + AGES_AT + 2] = 0;
+    room[CED_0 + AGES_AT + 3] = 0;
+    room[CED_0 + AGES_AT + 4] = 0;
+    room[TIMING_0] = 1;
+    room[TIMING_0 + COUNT_AT + 1] = 42;
+    room[TIMING_0 + AGES_AT] = 0;
+    room[TIMING_0 + AGES_AT + 1] = 0;
 }
 
 // E01 in both slots of row 0, with ones and counts of 50 and 51 in slot 1: the first is the candidate, and the first answers.
@@ -558,8 +598,8 @@ fn satellite_twice(room: &mut [u8; ROOM]) {
     begin(room);
     text(b"E01 twice in a row\n");
     take_slot_0(room);
-    room[118] = 50;
-    room[195] = 51;
+    room[CED_1 + COUNT_AT + 1] = 50;
+    room[TIMING_1 + COUNT_AT + 1] = 51;
     candidate(room, 1, 0, 1, at(WEEK, T30));
     candidate(room, 1, 4, 1, at(WEEK, T30));
     ask(room, 1);
@@ -571,13 +611,13 @@ fn satellite_twice(room: &mut [u8; ROOM]) {
 // A row's time of 604800, which is no time, and of 604770, the last start of a week.
 fn row_times(room: &mut [u8; ROOM]) {
     begin(room);
-    room[11] = 0;
-    room[12] = 9;
-    room[13] = 58;
-    room[14] = 128;
+    room[HEADER + TIME_AT] = 0;
+    room[HEADER + TIME_AT + 1] = 9;
+    room[HEADER + TIME_AT + 2] = 58;
+    room[HEADER + TIME_AT + 3] = 128;
     text(b"a row of 604800:");
     every(room);
-    room[14] = 98;
+    room[HEADER + TIME_AT + 3] = 98;
     text(b"a row of 604770:");
     every(room);
 }
@@ -586,13 +626,13 @@ fn row_times(room: &mut [u8; ROOM]) {
 fn ages_of_none(room: &mut [u8; ROOM]) {
     fresh(room, 1, 1);
     text(b"ages where no satellite is\n");
-    room[19] = 1;
-    room[20] = 5;
-    room[21] = 3;
-    room[22] = 4;
-    room[23] = 2;
-    room[96] = 7;
-    room[97] = 6;
+    room[CED_0 + AGES_AT] = 1;
+    room[CED_0 + AGES_AT + 1] = 5;
+    room[CED_0 + AGES_AT + 2] = 3;
+    room[CED_0 + AGES_AT + 3] = 4;
+    room[CED_0 + AGES_AT + 4] = 2;
+    room[TIMING_0 + AGES_AT] = 7;
+    room[TIMING_0 + AGES_AT + 1] = 6;
     word(room, 3, 0, 5, at(WEEK, T));
     candidate(room, 5, 0, 5, at(WEEK, T30));
     candidate(room, 5, 0, 6, at(WEEK, T30));
