@@ -1,4 +1,4 @@
--- The paper's number and values for what asking came to, and where the record that answers starts in the room.
+-- STORE 14.1: the number and the values for what asking came to, and where the record that answers starts in the room.
 use Prim.Native.Nat.{ℕ}
 use mathlib.Core.Bool.{cond}
 use mathlib.Core.List.{List, [], _∷_}
@@ -12,7 +12,7 @@ use Rattle.ask.specs.declared.Answered.{Answered}
 use Rattle.ask.specs.declared.Answered.the-variants.{Record, Refused}
 use Rattle.ask.specs.Backward.{rowAnswering, slotAnswering}
 
--- "its count, and its row's subframe less 30 s × its least age"
+-- STORE 12.3: the count, and the time less 30 s for each of the least age
 abbrev pub answeredAnswer : Answered → Answer
 answeredAnswer (Record place n gst) = done (n ∷ gst .wn .0 ∷ gst .tow .0 ∷ [])
 answeredAnswer (Refused why) = refused (numberOf why)

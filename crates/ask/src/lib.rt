@@ -1,5 +1,5 @@
-// Asking (document 01, "What asking does"): "From the current row backward through the ring, the first record of the satellite with
-// a count of at least 40", and its row's subframe less 30 s × its least age. `ask` is the one path of every asking.
+// Asking (STORE 12): from the current row backward around the ring, the satellite's first record with a count that is enough, and
+// the time of its row less 30 s for each of its least age. `ask` is the one path of every asking.
 ghost use mathlib.Core.Path.{_≡_};
 ghost use Prim.Native.Nat.{_+_, _≤_, _<_};
 ghost use lib.Dec.{ltb};
@@ -30,7 +30,7 @@ use records::Timing;
 use refusals::Refusal;
 use svn::Svn;
 
-// "a count of at least 40"
+// STORE 12.1: the count that answers
 const LEAST_COUNT: u16 = 40;
 
 // Where the row that answers and its record start in the room.
@@ -149,7 +149,7 @@ fn subframes_back(age: u8) -> i32
     0 - (age as i32)
 }
 
-// "its row's subframe less 30 s × its least age", for the row and the record that start there
+// STORE 12.3: the row's subframe less 30 s for each of the least age, for the row and the record that start there
 fn time_before(room: &[u8], row: usize, at: usize, timing: bool) -> NewTime
     requires { ⌜ (row + headSize ≤ length (now room)) × (at + size (familyIf timing) ≤ length (now room)) ⌝ }
     ensures { λ r. ⌜ timeAnswer r
@@ -165,7 +165,7 @@ fn time_before(room: &[u8], row: usize, at: usize, timing: bool) -> NewTime
     subframe.add_subframes(back)
 }
 
-// "Asking 3, 4, 12, 7"
+// STORE 14.2, asking: 3, 4, 12, 7
 pub fn ask(room: &[u8], timing: bool, svn: Svn) -> Answered
     ensures { λ r. ⌜ (answeredAnswer r ≡ askAnswer (familyIf timing) (svn .0) (now (room .entry)))
         × (placeAnswered r ≡ askPlace (familyIf timing) (svn .0) (now (room .entry))) ⌝ }

@@ -1,4 +1,4 @@
--- "Bench program": the call that a record makes, its answer, the room after it and its line.
+-- STORE 17.2, 17.3: the call that a record of the bench makes, its answer, the room after it and its line.
 use Prim.Native.Nat.{ℕ}
 use mathlib.Core.Bool.{not}
 use mathlib.Core.List.{List, [], _∷_}
@@ -15,15 +15,15 @@ use Rattle.lines.specs.declared.Kind.{Kind}
 use Rattle.lines.specs.declared.Kind.the-variants.{Word, Tag, Reset, Ced, Timing, Fresh, Unknown}
 use Rattle.lines.specs.Lines.{lineOf}
 
--- "1 word: satellite, band, week (2), time (4), 16 bytes"
+-- STORE 17.2, kind 1: satellite, band, week (2), time (4), the word
 unfoldable pub wordCall : List ℕ → Call
 wordCall body = feedCall (part 8 wordBytes body) (getD body 0 0) (be16 body 2) (be32 body 4) (getD body 1 0)
 
--- "the candidate's data", of a tag's satellite, kind, COP, week and time
+-- the data of the candidate, of a tag's satellite, kind, COP, week and time
 unfoldable pub candidateOn : List ℕ → List ℕ → List ℕ
 candidateOn body room = candidateData (getD body 0 0) (getD body 1 0) (getD body 2 0) (be16 body 6) (be32 body 8) room
 
--- "2 tag: satellite, kind, COP, length, status, verdict (0 is no), week (2), time (4); the candidate's data is used"
+-- STORE 17.2, kind 2: satellite, kind, COP, length, status, verdict, week (2), time (4); the data given is the candidate's own
 unfoldable pub tagCallOn : List ℕ → List ℕ → Call
 tagCallOn body room =
     tagCall (getD body 0 0) (getD body 1 0) (getD body 2 0) (getD body 3 0) (getD body 4 0) (be16 body 6) (be32 body 8)
@@ -40,7 +40,7 @@ callsOf Timing body room = askCall TIMING (getD body 0 0) ∷ []
 callsOf Fresh body room = freshCall (getD body 0 0) (getD body 1 0) ∷ []
 callsOf Unknown body room = []
 
--- "13 .. bench only: unknown kind byte"
+-- STORE 17.4: a kind byte that is unknown is 13
 abbrev pub answerOn : List Call → List ℕ → Answer
 answerOn [] room = refused 13
 answerOn (c ∷ l) room = answerTo c room

@@ -1,4 +1,4 @@
-// One whole record of the bench program answered on a room (document 01, "Bench program").
+// One whole record of the bench program answered on a room (STORE 17.2, 17.3).
 use gst::Gst;
 use gst::Tow;
 use gst::Wn;

@@ -1,4 +1,4 @@
-// Bits of bytes, "bit 0 the top bit of the first byte" (document 01, "Words"): a move of bits that goes byte by byte and ensures what
+// Bits of bytes, from the top bit of the first byte on (STORE 5.1): a move of bits that goes byte by byte and ensures what
 // the bit-by-bit definition says.
 use numbers::as_u32;
 ghost use mathlib.Core.Path.{_≡_};

@@ -1,10 +1,10 @@
 // Each call of the store through each of its refusals and successes, on a small room: a line for each call; through every value of
-// each of its numbers, a line for each number; on rooms that no call makes; and the examples of document 01 that its table leaves to a
-// program.
+// each of its numbers, a line for each number; on rooms that no call makes; and the examples of STORE 18 that have no star, which are
+// left to a program.
 //
-// A line says the call and its numbers, then after the colon what came back: the number of document 01 and its values, for a part
+// A line says the call and its numbers, then after the colon what came back: the number of STORE 14.1 and its values, for a part
 // that is handed out its length and its Adler-32, and last the Adler-32 of the whole room, which stays where the number is not 0. The
-// lines that the gate compares with are those of tools/model, which was written from document 01 and not from this program.
+// lines that the gate compares with are those of tools/model, which was written from the scope paper (STORE 1.1) and not from this program.
 use gst::Gst;
 use gst::Tow;
 use gst::Wn;
@@ -640,7 +640,7 @@ fn ages_of_none(room: &mut [u8; ROOM]) {
     candidate(room, 5, 4, 8, at(WEEK, T30));
 }
 
-// ---- the examples of document 01 that a program runs
+// ---- the examples of STORE 18 that a program runs
 // A fresh store with both timing words of E01, of zeros.
 fn begin_clock(room: &mut [u8; ROOM], d: u8) {
     fresh(room, d, 1);
@@ -656,7 +656,7 @@ fn changed_six(room: &mut [u8; ROOM]) {
     feed(room, &six, 1, at(1, 0), 0);
 }
 
-// "D 3, subframes A, B, A: a tag for A is looked up in row 0."
+// 18.14: D 3, subframes A, B, A, and a tag for A.
 fn looked_up(room: &mut [u8; ROOM]) {
     let given = [0; 18];
     text(b"D 3, subframes A, B, A\n");
@@ -667,7 +667,7 @@ fn looked_up(room: &mut [u8; ROOM]) {
     tag(room, 1, 4, 15, 40, 2, at(1, 30), &given);
 }
 
-// "The same word again keeps the count; one bit changed gives 0."
+// 18.15: the same word again, and one with a bit changed.
 fn same_word(room: &mut [u8; ROOM]) {
     let mut given = [0; 18];
     text(b"the same word again, and one with a bit changed\n");

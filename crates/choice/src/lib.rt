@@ -1,5 +1,5 @@
-// Which record of a row a word goes to: "The search ends with the place of the greatest key, the last of equals" (document 01, "What a
-// word does"). Only the promises of `choose_ced` and `choose_timing` are for callers.
+// Which record of a row a word goes to (STORE 10.5): the place of the greatest key, and of equal ones the last.
+// Only the promises of `choose_ced` and `choose_timing` are for callers.
 ghost use mathlib.Core.Path.{_≡_};
 ghost use Prim.Native.Nat.{_+_, _≤_, _<_};
 ghost use lib.ListN.{length};
@@ -11,7 +11,7 @@ use records::Ced;
 use records::SATELLITE_AT;
 use records::Timing;
 
-// "257 for the same satellite, 256 for none, else its greatest age"
+// STORE 10.5: the keys of a record of the satellite, and of one that has none
 const SAME: u16 = 257;
 
 const NONE: u16 = 256;
@@ -78,7 +78,7 @@ fn key_at(row: &[u8], timing: bool, i: usize, sat: u8) -> u16
     key_ced(&row[at..at + Ced::SIZE], sat)
 }
 
-// "the place of the greatest key, the last of equals": a key that is no less takes the place.
+// STORE 10.5, the last of equals: a key that is no less takes the place.
 fn by_keys(row: &[u8], timing: bool, n: usize, sat: u8) -> usize
     requires { ⌜ (n ≤ mostSlots) × (rowSize n ≤ length (now row)) ⌝ }
     ensures { λ r. ⌜ r ≡ chosen (familyIf timing) sat n (now (row .entry)) ⌝ }

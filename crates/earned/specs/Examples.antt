@@ -161,7 +161,7 @@ apart =
     ∷ row (fresh 2 1) (tagCall 1 4 1 40 2 1177 T30 clock false ∷ forty) (timing 0 0) 40 40
     ∷ []
 
--- "can a count outlive the bits it was earned on?": the five words of an orbit at T, the fifth changed at T + 30 s, and a tag of 40
+-- the question of docs/ANSWER.md: the five words of an orbit at T, the fifth changed at T + 30 s, and a tag of 40
 -- for T, before the change
 unfoldable pub tagFirst : ℕ → List Call
 tagFirst cop = feed 1 5 255 T30 ∷ tag 0 cop 40 T30 orbit ∷ five 1

@@ -1,4 +1,4 @@
--- What a tag and the candidate test first: "3, 4, 5, 6".
+-- What a tag and the candidate test first, STORE 14.2: 3, 4, 5, 6.
 use Prim.Native.Nat.{ℕ}
 use mathlib.Core.List.{List, []}
 use Rattle.paper.specs.Number.{Answer, answer}

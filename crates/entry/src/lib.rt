@@ -1,4 +1,4 @@
-// "Order": the tests of each entry on its own input, in the paper's order, before anything is done. Each answers with the reply that
+// STORE 14.2: the tests of each entry on its own input, in their order, before anything is done. Each answers with the reply that
 // the call gives up to there.
 ghost use mathlib.Core.Path.{_≡_};
 ghost use Rattle.paper.specs.Answer.{freshAnswer, feedAnswer};
@@ -12,7 +12,7 @@ use refusals::Refusal;
 use refusals::Reply;
 use svn::Svn;
 
-// "fresh 1, 2"
+// fresh: 1, 2
 pub fn fresh_entry(room: &[u8], d: u8, n: u8) -> Reply
     ensures { λ r. ⌜ replyAnswer r ≡ freshAnswer d n (now (room .entry)) ⌝ }
 {
@@ -26,7 +26,7 @@ pub fn fresh_entry(room: &[u8], d: u8, n: u8) -> Reply
     Reply::Done
 }
 
-// "Word 3, 4, 5, 8, 9"
+// word: 3, 4, 5, 8, 9
 pub fn feed_entry(room: &[u8], word: &[u8], svn: Svn, gst: Gst, band: u8) -> Reply
     ensures { λ r. ⌜ replyAnswer r ≡ feedAnswer (now (word .entry)) (svn .0) (gst .tow .0) band (now (room .entry)) ⌝ }
 {
@@ -49,7 +49,7 @@ pub fn feed_entry(room: &[u8], word: &[u8], svn: Svn, gst: Gst, band: u8) -> Rep
     Reply::Done
 }
 
-// "Tag 3, 4, 5, 6": what a tag and the candidate test first
+// 3, 4, 5, 6: what a tag and the candidate test first
 pub fn mack_entry(room: &[u8], svn: Svn, gst: Gst) -> Reply
     ensures { λ r. ⌜ replyAnswer r ≡ mackAnswer (svn .0) (gst .tow .0) (now (room .entry)) ⌝ }
 {

@@ -1,4 +1,4 @@
--- A row of the table of examples: what the definitions give, and what document 01 says comes out.
+-- A row of the table of examples: what the definitions give, and what STORE 18 says comes out.
 use Prim.Native.Nat.{ℕ, zero, suc, _+_, _*_}
 use mathlib.Core.Path.{_≡_}
 use mathlib.Core.Bool.{Bool, true, _&&_}

@@ -1,4 +1,4 @@
--- "Marked and unmarked examples", those marked *, and "Ways to get it nearly right", as rows of one table.
+-- STORE 18, the examples with a star, and the near misses of STORE 16.6, as rows of one table.
 use Prim.Native.Nat.{ℕ, _+_}
 use mathlib.Core.Bool.{Bool, true, false}
 use mathlib.Core.List.{List, [], _∷_, _++_}
@@ -55,49 +55,49 @@ unfoldable pub firstAgain : List Call
 firstAgain =
     feedCall (word 0 0) 1 0 0 0 ∷ feedCall (word 0 0) 1 0 30 0 ∷ clockTag 0 30 ∷ clock 0 0 (freshCall 2 1 ∷ [])
 
--- "Times"
+-- times
 unfoldable pub times : List Row
 times =
-    -- (1177, 175767) + 2 s = (1177, 175769); its subframe starts at 175740
+    -- 18.1: 2 s on; the subframe of the sum
     row (flat (addSeconds 1177 175767 (pos 2))) (0 ∷ 1177 ∷ 175769 ∷ [])
     ∷ row (flat (subframeOf 1177 175769)) (0 ∷ 1177 ∷ 175740 ∷ [])
-    -- (0, 0) − 30 s: 7. (1, 0) − 30 s = (0, 604770)
+    -- 18.2: 30 s before the start of week 0, and of week 1
     ∷ row (flat (addSeconds 0 0 (negsuc 29))) (7 ∷ [])
     ∷ row (flat (addSeconds 1 0 (negsuc 29))) (0 ∷ 0 ∷ 604770 ∷ [])
-    -- (65535, 604799) + 1 s: 7
+    -- 18.3: behind the last second of the last week
     ∷ row (flat (addSeconds 65535 604799 (pos 1))) (7 ∷ [])
-    -- (5, 0) − 604799 s = (4, 1); − 604800 s: 7
+    -- 18.4: a second less than a week back, and a week back
     ∷ row (flat (addSeconds 5 0 (negsuc 604798))) (0 ∷ 4 ∷ 1 ∷ [])
     ∷ row (flat (addSeconds 5 0 (negsuc 604799))) (7 ∷ [])
-    -- (1, 0) against (0, 604799): 1 subframe, though one second passed
+    -- 18.5: a second over the end of a week counts a subframe
     ∷ row (flatDifference (difference 1 0 0 604799)) (0 ∷ 1 ∷ [])
     ∷ []
 
--- "Slots"
+-- slots
 unfoldable pub places : List Row
 places =
-    -- N 3, fresh: E11 goes to slot 2, E12 then to slot 1
+    -- 18.6: N 3, fresh: E11 is in slot 2, and then E12 in slot 1
     row (satellites CED 0 3 (after (feed 11 1 175740 0 ∷ freshCall 1 3 ∷ []))) (0 ∷ 0 ∷ 11 ∷ [])
     ∷ row (satellites CED 0 3 (after (feed 12 1 175740 0 ∷ feed 11 1 175740 0 ∷ freshCall 1 3 ∷ []))) (0 ∷ 12 ∷ 11 ∷ [])
     ∷ row (satellites Timing 0 3 (after (feed 12 1 175740 0 ∷ feed 11 1 175740 0 ∷ freshCall 1 3 ∷ []))) (0 ∷ 12 ∷ 11 ∷ [])
-    -- N 2, one type 1 word each from E01, E02, E03: E03 takes slot 1, E01 is gone
+    -- 18.7: N 2: of E01, E02 and E03 the last takes the slot of the first
     ∷ row
     (satellites CED 0 2 (after (feed 3 1 175740 0 ∷ feed 2 1 175740 0 ∷ feed 1 1 175740 0 ∷ freshCall 1 2 ∷ [])))
     (2 ∷ 3 ∷ [])
-    -- Type 6 on E5B: satellite taken, ages stay 255
+    -- 18.8: type 6 on E5B takes the satellite and leaves the ages
     ∷ row (satellites Timing 0 1 (after (feed 1 6 175740 1 ∷ freshCall 1 1 ∷ []))) (1 ∷ [])
     ∷ row (agesOf Timing (at Timing 0 0 (after (feed 1 6 175740 1 ∷ freshCall 1 1 ∷ [])))) (255 ∷ 255 ∷ [])
     ∷ []
 
--- "Tags"
+-- tags
 unfoldable pub tags : List Row
 tags =
-    -- D 2, one satellite throughout: all five words at T, CED tag at T + 30 s, COP 1: accepted
+    -- 18.9: D 2, the five words at T, a CED tag at T + 30 s with COP 1
     row (lastAnswer (tag 175770 1 40 five) five) (0 ∷ 1 ∷ [])
-    -- its type 0 word at T + 30 s, tag at T + 60 s: COP 1 gives 10, COP 2 is accepted
+    -- 18.10: after a type 0 word at T + 30 s, a tag at T + 60 s with COP 1, and with COP 2
     ∷ row (lastAnswer (feed 1 0 175770 0) accepted) (0 ∷ [])
     ∷ row (lastAnswer (tag 175800 1 40 later) later) (10 ∷ [])
-    -- then rows T and T + 30 s both take it: total 2
+    -- 18.11: both rows hold the bits, so that two records take it
     ∷ row (lastAnswer (tag 175800 2 40 later) laterRefused) (0 ∷ 2 ∷ [])
     ∷ row (agesOf CED (at CED 1 0 (after later))) (1 ∷ 1 ∷ 1 ∷ 1 ∷ 1 ∷ [])
     -- given data that differs from the candidate's, or is short: 11
@@ -106,12 +106,12 @@ tags =
     -- a MACK in the first subframe of all, and data older than it: 7
     ∷ row (lastAnswer (tagCall 1 0 1 40 2 0 0 [] true) five) (7 ∷ [])
     ∷ row (lastAnswer (askCall Timing 1) firstAgain) (7 ∷ [])
-    -- one 20-bit tag: 12. Two: 40
+    -- 18.12: asking after one tag of 20, and after two
     ∷ row (lastAnswer (askCall CED 1) (tag 175770 1 20 five ∷ five)) (12 ∷ [])
     ∷ row
     (lastAnswer (askCall CED 1) (tag 175770 1 20 five ∷ tag 175770 1 20 five ∷ five))
     (0 ∷ 40 ∷ 1177 ∷ 175740 ∷ [])
-    -- 65,520 + 40 gives 65,535, and the record counts in the total
+    -- 18.13: 40 more than 65,520 is held at 65,535, and the record counts in the total
     ∷ row
     (count
     (at CED 0 0
@@ -129,33 +129,33 @@ unfoldable pub backward : List Call
 backward =
     feedCall (word 10 255) 1 1177 90 0 ∷ clockTag 1177 60 ∷ clock 1177 30 (clock 1177 60 (freshCall 3 1 ∷ []))
 
--- "Ways to get it nearly right": at each input the near miss would give something else
+-- STORE 16.6, near misses: at each input the near miss would give something else
 unfoldable pub nearMisses : List Row
 nearMisses =
-    -- clearing data when a satellite replaces another: E02 takes E01's slot, and its data stays
+    -- the data cleared at a takeover: E02 takes E01's slot, and its data stays
     row
     (take 3 (dataOf CED (at CED 0 0 (after (feed 2 0 175740 0 ∷ feed 1 1 175740 0 ∷ freshCall 1 1 ∷ [])))))
     (42 ∷ 170 ∷ 170 ∷ [])
     ∷ row
     (agesOf CED (at CED 0 0 (after (feed 2 0 175740 0 ∷ feed 1 1 175740 0 ∷ freshCall 1 1 ∷ []))))
     (255 ∷ 255 ∷ 255 ∷ 255 ∷ 255 ∷ [])
-    -- taking the first of equal keys: E03 would take slot 0
+    -- the first of equal keys chosen: E03 would take slot 0
     ∷ row
     (satellites Timing 0 2 (after (feed 3 1 175740 0 ∷ feed 2 1 175740 0 ∷ feed 1 1 175740 0 ∷ freshCall 1 2 ∷ [])))
     (2 ∷ 3 ∷ [])
-    -- storing types 6 and 10 from E5B
+    -- words 6 and 10 kept from E5B
     ∷ row
     (dataOf Timing (at Timing 0 0 (after (feed 1 10 175740 1 ∷ feed 1 6 175740 1 ∷ freshCall 1 1 ∷ []))))
     (replicate 18 0)
-    -- ignoring types 0 and 63 wholly, though they take slots
+    -- types 0 and 63 skipped: they take slots
     ∷ row
     (satellites CED 0 2 (after (feed 6 63 175740 1 ∷ feed 5 0 175740 0 ∷ freshCall 1 2 ∷ [])))
     (6 ∷ 5 ∷ [])
-    -- adding only to the candidate: the row copied from has the count too
+    -- the candidate alone credited: the row copied from has the count too
     ∷ row
     (count (at CED 0 0 (after laterAccepted)) ∷ count (at CED 1 0 (after laterAccepted)) ∷ [])
     (80 ∷ 80 ∷ [])
-    -- answering the greatest subframe in place of ring order: backward from 90 s comes 30 s, forward 60 s, which is greater too
+    -- the greatest subframe answering: backward from 90 s comes 30 s, forward 60 s, which is greater too
     ∷ row (lastAnswer (askCall Timing 1) backward) (0 ∷ 40 ∷ 1177 ∷ 30 ∷ [])
     ∷ []
 

@@ -1,5 +1,5 @@
-// The room's half of a word (document 01, "What a word does"): its time is cut to its subframe, the ring is settled for that, and "one
-// CED record and one timing record of the current row is chosen, each by its own key". Each is lent as a part of the row.
+// The room's half of a word (STORE 10): the ring is settled for the word's subframe, and in each family the record that is chosen
+// takes the word. Each is lent as a part of the row.
 ghost use mathlib.Core.Path.{_≡_};
 ghost use mathlib.Core.Bool.{true};
 ghost use Prim.Native.Nat.{ℕ, _≤_};
@@ -53,7 +53,7 @@ fn feed_current(room: &mut [u8], sat: u8, band: u8, word: &[u8])
     feed_row(&mut room[at..e], n, sat, band, word);
 }
 
-// "The word's time is cut to its subframe T"; the time of week was tested before.
+// STORE 10.1: of the word's time the subframe is used; the time of week was tested before.
 fn start_of(gst: Gst) -> u32
     requires { ⌜ isTime (gst .tow .0) ≡ true ⌝ }
     ensures { λ r. ⌜ r ≡ startOf (gst .tow .0) ⌝ }

@@ -1,5 +1,5 @@
 // The store's calls for C and Rust, under plain names. Room, word and data come as a pointer and a length, numbers as numbers; the
-// paper's number and its values go back by value, and a part of the room as its offset and its bytes. No call asks anything of its caller.
+// number and its values go back by value, and a part of the room as its offset and its bytes. No call asks anything of its caller.
 ghost use mathlib.Core.Path.{_≡_};
 ghost use mathlib.Core.Bool.{cond};
 ghost use lib.ListN.{length};
@@ -265,7 +265,7 @@ pub extern "C" fn dawnstook_reset_authbits(room: &mut [u8]) -> u8
     reply_number(navmessage::reset_authbits(room))
 }
 
-// A refusal: "any number beside them is 0".
+// A refusal: the values beside it are 0 (STORE 14.3).
 fn no_moment(why: Refusal) -> Moment
     ensures { λ r. ⌜ r ≡ momentOf (refused (numberOf why)) ⌝ }
 {

@@ -1,5 +1,5 @@
-// "Fresh room": all rows blank, row 0 current, data zero, ages 255, no satellites, counts 0. Whether D, N and the room's length are
-// allowed is tested before.
+// A fresh store (STORE 9.1): blank rows, and records with no satellite, no count, no data and the greatest ages. Whether D, N and the
+// room's length are allowed is tested before.
 ghost use mathlib.Core.Path.{_≡_};
 ghost use Prim.Native.Nat.{_+_, _≤_, _<_};
 ghost use lib.ListN.{length, replicate};

@@ -1,4 +1,4 @@
--- The paper's number and values for each case of an answer of `gst`.
+-- STORE 14.5: the number and the values for each case of an answer of `gst`.
 use Prim.Native.Nat.{ℕ}
 use mathlib.Core.List.{[], _∷_}
 use Rattle.paper.specs.Number.{Answer, done, refused}

@@ -19,7 +19,7 @@ pub(crate) fn below_zero(x: i32) -> bool
     x < 0
 }
 
-// The seconds of so many subframes: as many as document 01 allows fit.
+// The seconds of so many subframes: as many as STORE 3.6 allows fit.
 pub(crate) fn in_seconds(subframes: i32) -> i32
     requires { ⌜ natAbs subframes ≤ mostSubframes ⌝ }
     ensures { λ r. ⌜ r ≡ subframes *ℤ pos subframeSeconds ⌝ }

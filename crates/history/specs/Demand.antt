@@ -1,4 +1,4 @@
--- Demand 3 as one statement, over the definitions that the promises of the calls cite.
+-- Demand 3, STORE 15.6, as one statement, over the definitions that the promises of the calls cite.
 use Prim.Native.Nat.{ℕ, _≤_, min}
 use mathlib.Core.Bool.{true}
 use mathlib.Core.List.{List, [], _∷_}
@@ -12,38 +12,38 @@ use Rattle.paper.specs.Call.{Call, freshCall, askCall, answerTo, partTo, roomAf
 use Rattle.history.specs.Line.{Place, Inside, at, Tag, tags, total}
 
 pub record AcceptedFor (f : Family) (sat : ℕ) (bytes : List ℕ) (tag : Tag) : Type 0 where
-  -- the tag "was accepted": the verdict on the data given with it was yes
+  -- the tag was accepted: the verdict on the data given with it was yes
   pub accepted : tag .verdict ≡ true
-  -- "for exactly the satellite"
+  -- for exactly the satellite
   pub satellite : tag .satellite ≡ sat
-  -- "and exactly the bits (549 or 141)": given with it were 69 or 18 bytes, with those bits
+  -- and exactly the bits, 549 or 141: given with it were 69 or 18 bytes, with those bits
   pub bits : sameBits f (tag .given) bytes ≡ true
   pub whole : length (tag .given) ≡ dataBytes f
 
--- "each of those tags"
+-- each of those tags
 abbrev pub EachFor : Family → ℕ → List ℕ → List Tag → Type 0
 EachFor f sat bytes [] = Unit {0}
 EachFor f sat bytes (tag ∷ rest) = AcceptedFor f sat bytes tag × EachFor f sat bytes rest
 
 pub record Earned (f : Family) (rec : List ℕ) (tags : List Tag) : Type 0 where
-  -- "the count is the least of 65,535 and the sum of the lengths of the tags"
+  -- the count is the sum of the lengths of the tags, held at 65,535
   pub counts : count rec ≡ min mostCount (total tags)
-  -- "each of those tags was accepted for exactly the satellite and exactly the bits that stand in the record now"
+  -- each of those tags was accepted for exactly the satellite and exactly the bits that the record has now
   pub each : EachFor f (satellite rec) (dataOf f rec) tags
 
 abbrev pub Demand3 : Type 0
 Demand3 =
-    -- "from any room of any length on which a fresh call succeeded"
+    -- from any room, of any length, on which a fresh call was answered 0
     (room : List ℕ) (d n : ℕ)
     → number (answerTo (freshCall d n) room) ≡ 0
-    -- "after any list of calls, refused ones and further fresh ones among them": the latest first, with any arguments
+    -- after any calls, refused ones and further fresh ones among them: the latest first, with any arguments
     → (calls : List Call)
-    -- "at every place inside D and N" of the room as it is then
+    -- at every place inside D and N of the room as it is then
     → (place : Place)
     → let start = roomAfter (freshCall d n) room in
     let now = run start calls in
     Inside now place
-    -- the record there has the count that "the tags accepted along the line since its last break" earned, for what it holds now
+    -- the record there has the count that the tags on its line since the last break earned, for what it holds now
     → Earned (place .family) (at now place) (tags start calls place)
 
 abbrev pub Never3 : Type 0
@@ -59,10 +59,10 @@ Never3 =
 pub record Behind (start : List ℕ) (calls : List Call) (f : Family) (sat counted : ℕ) (bytes : List ℕ) : Type 0 where
   -- the place of the record that answers
   pub place : Place
-  -- "its count": earned by the tags on its line, of at least 40 bits
+  -- the count: earned by the tags on its line, of at least 40 bits
   pub counts : counted ≡ min mostCount (total (tags start calls place))
   pub enough : leastCount ≤ total (tags start calls place)
-  -- "its data": each of those tags was accepted for the satellite asked for and for exactly these bits
+  -- the data: each of those tags was accepted for the satellite asked for and for exactly these bits
   pub each : EachFor f sat bytes (tags start calls place)
 
 abbrev pub AskEarned : Type 0

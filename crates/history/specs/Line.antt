@@ -1,4 +1,4 @@
--- "Line and break": the line of a record followed back in time, its breaks, and the tags that count on it.
+-- STORE 15: the line of a record followed back in time, its breaks, and the tags that count on it.
 use Prim.Native.Nat.{ℕ, _+_, _<_}
 use mathlib.Core.Bool.{Bool, true, false, cond, not, _&&_, _||_}
 use mathlib.Core.List.{List, [], _∷_, _++_}
@@ -11,13 +11,13 @@ use Rattle.paper.specs.Feed.{nextRow, moves}
 use Rattle.paper.specs.Tag.{familyOf, candidateRecord}
 use Rattle.paper.specs.Call.{Call, freshCall, feedCall, tagCall, candidateCall, askCall, resetCall, answerTo, roomAfter, run}
 
--- "one slot number in one family", in a row
+-- STORE 15.1: a slot number of a family, in a row
 pub record Place : Type 0 where
   pub family : Family
   pub row : ℕ
   pub slot : ℕ
 
--- "inside D and N"
+-- inside D and N
 pub record Inside (room : List ℕ) (place : Place) : Type 0 where
   pub row : place .row < depth room
   pub slot : place .slot < slots room
@@ -26,11 +26,11 @@ pub record Inside (room : List ℕ) (place : Place) : Type 0 where
 abbrev pub at : List ℕ → Place → List ℕ
 at room place = recordOf (place .family) (place .slot) (rowOf (place .row) room)
 
--- "answered 0"
+-- answered 0
 abbrev pub succeeds : Call → List ℕ → Bool
 succeeds call room = eqb (number (answerTo call room)) 0
 
--- "that row was last filled by a copy": by this call, which moved the ring
+-- STORE 15.1: this call moved the ring and filled the row by its copy
 unfoldable pub fills : Call → List ℕ → ℕ → Bool
 fills (freshCall d n) room row = false
 fills (feedCall word sat w t band) room row =
@@ -42,7 +42,7 @@ fills (candidateCall sat kind cop w t) room row = false
 fills (askCall f sat) room row = false
 fills resetCall room row = false
 
--- "a record's past is its own row's slot, and before that row was last filled by a copy, the same slot of the row copied from"
+-- STORE 15.1: where the record stood before the call: in the same row and slot, or in that slot of the row that was copied
 abbrev pub past : Call → List ℕ → Place → Place
 past call room place =
     record {
@@ -51,7 +51,7 @@ past call room place =
       slot = place .slot;
     }
 
--- "resets counts"
+-- STORE 15.2: a reset that is answered 0
 unfoldable pub resets : Call → List ℕ → Bool
 resets (freshCall d n) room = false
 resets (feedCall word sat w t band) room = false
@@ -60,16 +60,16 @@ resets (candidateCall sat kind cop w t) room = false
 resets (askCall f sat) room = false
 resets resetCall room = succeeds resetCall room
 
--- two records with the same satellite and "all its bits", the 549 or 141
+-- two records with the same satellite and the same bits, the 549 or 141
 unfoldable pub same : Family → List ℕ → List ℕ → Bool
 same f x y = eqb (satellite x) (satellite y) && sameBits f (dataOf f x) (dataOf f y)
 
--- "A break is a call that changes the line's bits, changes its satellite, or resets counts."
+-- STORE 15.2: a break
 unfoldable pub broken : Call → List ℕ → Place → Bool
 broken call room place =
     resets call room || not (same (place .family) (at (roomAfter call room) place) (at room (past call room place)))
 
--- "A fresh call that succeeds begins a new history."
+-- STORE 15.4: a new history
 unfoldable pub begins : Call → List ℕ → Bool
 begins (freshCall d n) room = succeeds (freshCall d n) room
 begins (feedCall word sat w t band) room = false
@@ -78,15 +78,15 @@ begins (candidateCall sat kind cop w t) room = false
 begins (askCall f sat) room = false
 begins resetCall room = false
 
--- a tag: "satellite", "the data the verdict was formed over, the verdict", "length"
+-- a tag: its satellite, the data that the verdict was formed over, the verdict, its length
 pub record Tag : Type 0 where
   pub satellite : ℕ
   pub given : List ℕ
   pub verdict : Bool
   pub length : ℕ
 
--- "A tag answered 0 counts on a line if, when it came, the line's record was of the tag's family and held the candidate's satellite
--- and all its bits."
+-- STORE 15.3: a tag counts on a line where it is answered 0 and where the line is of its family and its record has the candidate's
+-- satellite and bits
 unfoldable pub counted : Call → List ℕ → Place → List Tag
 counted (freshCall d n) room place = []
 counted (feedCall word sat w t band) room place = []
@@ -102,7 +102,7 @@ counted (candidateCall sat kind cop w t) room place = []
 counted (askCall f sat) room place = []
 counted resetCall room place = []
 
--- "A line .. followed back in time": the tags that count on the line of a place after some calls, the latest first, since its last
+-- STORE 15.6: the tags that count on the line of a place after some calls, the latest first, since its last
 -- break or since the fresh call that began its history
 unfoldable pub tags : List ℕ → List Call → Place → List Tag
 tags room [] place = []

@@ -6,13 +6,13 @@ ghost use Rattle.paper.specs.Room.{base};
 use records::Ced;
 use records::Timing;
 
-// "D 1 to 16"
+// STORE 7.1: the most rows, D
 pub const MOST_ROWS: u8 = 16;
 
-// "N 1 to 36"
+// STORE 7.1: the most slots, N
 pub const MOST_SLOTS: u8 = 36;
 
-// "Header: D, N, current row, five zeros"
+// STORE 7.3: D, N, the current row, five zeros
 pub const DEPTH_AT: usize = 0;
 
 pub const SLOTS_AT: usize = DEPTH_AT + 1;
@@ -23,7 +23,7 @@ pub const ZEROS_AT: usize = CURRENT_AT + 1;
 
 pub const HEADER: usize = ZEROS_AT + 5;
 
-// "A row starts with its mark, week 2, time 4 and a spare zero"
+// STORE 7.4: a mark, a week, a time and a spare byte
 pub const MARK_AT: usize = 0;
 
 pub const WEEK_AT: usize = MARK_AT + 1;

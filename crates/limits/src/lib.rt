@@ -9,14 +9,14 @@ use layout::MOST_SLOTS;
 // The bytes of a word.
 pub const WORD_BYTES: usize = 16;
 
-// "kind (0 CED, 4 timing, 12 slow CED)"
+// STORE 11.1: the kinds
 const CED_KIND: u8 = 0;
 
 pub const TIMING_KIND: u8 = 4;
 
 const SLOW_CED_KIND: u8 = 12;
 
-// "D or N outside its range": whether neither is. The test of a fresh store too.
+// STORE 7.1: whether D and N are in range. The test of a fresh store too.
 pub fn sizes_allowed(d: u8, n: u8) -> bool
     ensures { λ r. ⌜ r ≡ sizesAllowed d n ⌝ }
 {
@@ -45,14 +45,14 @@ pub fn kind_known(kind: u8) -> bool
     kind == SLOW_CED_KIND
 }
 
-// "COP 0 to 15"
+// STORE 11.1: the COPs
 pub fn cop_allowed(cop: u8) -> bool
     ensures { λ r. ⌜ r ≡ copAllowed cop ⌝ }
 {
     cop <= 15
 }
 
-// "length 20, 24, 28, 32 or 40"
+// STORE 11.1: the lengths
 pub fn length_allowed(bits: u8) -> bool
     ensures { λ r. ⌜ r ≡ lengthAllowed bits ⌝ }
 {
@@ -71,14 +71,14 @@ pub fn length_allowed(bits: u8) -> bool
     bits == 40
 }
 
-// "status (0 reserved, 1 test, 2 operational, 3 don't use)"
+// STORE 11.1: the statuses
 pub fn status_known(status: u8) -> bool
     ensures { λ r. ⌜ r ≡ statusKnown status ⌝ }
 {
     status <= 3
 }
 
-// whether a tag adds under this status: "18 status 0 or 3, nothing added"
+// STORE 11.5: whether a tag adds under this status
 pub fn status_adds(status: u8) -> bool
     ensures { λ r. ⌜ r ≡ statusAdds status ⌝ }
 {

@@ -1,4 +1,4 @@
--- "Bench program": the line that says an answer.
+-- STORE 17.3: the line that says an answer.
 use Prim.Native.Nat.{ℕ, _+_, _*_}
 use mathlib.Core.List.{List, [], _∷_, _++_}
 use Rattle.paper.specs.Number.{Answer, done, refused, number, values}
@@ -27,7 +27,7 @@ mostReading bytes = mostSatellite + mostNumbers + (1 + 2 * bytes)
 abbrev pub longestLine : ℕ
 longestLine = 2 + mostDigits + mostReading (dataBytes CED) + 1
 
--- the paper's answer: 0 with its values, or the number of the refusal
+-- STORE 14.5: 0 with its values, or the number of the refusal
 abbrev pub outcomeAnswer : Outcome → Answer
 outcomeAnswer (Refused k) = refused k
 outcomeAnswer Done = done []
@@ -38,15 +38,15 @@ outcomeAnswer (Reading count gst) = done (count ∷ gst .wn .0 ∷ gst .tow .0 �
 abbrev pub spaced : ℕ → List ℕ
 spaced x = 32 ∷ decimal x
 
--- "count, week, time"
+-- the count, the week, the time
 unfoldable pub numbersText : ℕ → ℕ → ℕ → List ℕ
 numbersText count w t = spaced count ++ (spaced w ++ spaced t)
 
--- "satellite, count, week, time and lower-case hex"
+-- the satellite, the count, the week, the time, the data in hex
 unfoldable pub readingText : ℕ → ℕ → ℕ → ℕ → List ℕ → List ℕ
 readingText sat count w t part = (32 ∷ lettersOf sat) ++ (numbersText count w t ++ (32 ∷ hexOf part))
 
--- "then, after 0 only, the tag's record total, or satellite, count, week, time and lower-case hex"
+-- STORE 17.3: what stands behind 0, a tag's total or what an asking hands out
 abbrev pub valuesText : ℕ → List ℕ → List ℕ → List ℕ
 valuesText sat [] part = []
 valuesText sat (total ∷ []) part = spaced total
@@ -54,7 +54,7 @@ valuesText sat (x ∷ y ∷ []) part = []
 valuesText sat (count ∷ w ∷ t ∷ []) part = readingText sat count w t part
 valuesText sat (x ∷ y ∷ z ∷ v ∷ l) part = []
 
--- "Each prints one line": the letter of its kind and the number, and what stands behind 0
+-- STORE 17.3: the letter of its kind and the number, and what stands behind 0
 unfoldable pub lineOf : Kind → ℕ → Answer → List ℕ → List ℕ
 lineOf kind sat a part =
     letterOf kind ++ (decimal (number a) ++ (valuesText sat (values a) part ++ (10 ∷ [])))

@@ -1,4 +1,4 @@
-// The lines of the bench program (document 01, "Bench program"): the kinds of record, and an answer as one line of text.
+// The lines of the bench program (STORE 17): the kinds of record, and an answer as one line of text.
 use gst::Gst;
 use limits::WORD_BYTES;
 use records::Ced;
@@ -19,10 +19,10 @@ ghost use Rattle.lines.specs.Kinds.{kindOf, bodyLength, letterOf};
 ghost use Rattle.lines.specs.Lines.{mostSpaced, mostNumbers, mostSatellite, mostReading, longestLine};
 ghost use Rattle.lines.specs.Lines.{outcomeAnswer, spaced, numbersText, readingText, valuesText, lineOf};
 
-// "satellite, band, week (2), time (4), 16 bytes"
+// STORE 17.2, kind 1: satellite, band, week, time, the word
 const WORD_BODY: usize = 1 + 1 + 2 + 4 + WORD_BYTES;
 
-// "satellite, kind, COP, length, status, verdict (0 is no), week (2), time (4)"
+// STORE 17.2, kind 2: satellite, kind, COP, length, status, verdict, week, time
 const TAG_BODY: usize = 6 + 2 + 4;
 
 // the longest record: its kind and a word's body
@@ -107,7 +107,7 @@ impl Kind {
 }
 
 impl Outcome {
-    // The paper's number.
+    // The number of STORE 14.1.
     pub fn number(self) -> u8
         ensures { λ r. ⌜ r ≡ number (outcomeAnswer self) ⌝ }
     {

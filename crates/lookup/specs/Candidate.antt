@@ -17,14 +17,14 @@ use Rattle.lookup.specs.Found.{pick}
 abbrev pub placeOf : Family → ℕ → ℕ → List ℕ → ℕ
 placeOf f r i room = rowAt (slots room) r + recordAt f i
 
--- "the first record there of that satellite and family", if its ages fit the COP: where it starts, for row r
+-- STORE 11.3: the satellite's first record of the family in row r, if its ages fit the COP: where it starts
 unfoldable pub candidateIn : Family → ℕ → ℕ → ℕ → List ℕ → Found
 candidateIn f sat cop r room =
     let row = rowOf r room in
     let i = firstSlot f sat (slots room) row in
     pick (ltb i (slots room)) (pick (fitsCop f cop (recordOf f i row)) (At (placeOf f r i room)) Nothing) Nothing
 
--- in "the first row, from row 0 up, marked with" w, t
+-- STORE 11.2: in the first row, from row 0, that is marked w, t
 unfoldable pub candidateAt : Family → ℕ → ℕ → ℕ → ℕ → List ℕ → Found
 candidateAt f sat cop w t room =
     let r = firstRow w t room in

@@ -9,6 +9,6 @@ abbrev pub pick : Bool → Found → Found → Found
 pick true a b = a
 pick false a b = b
 
--- the answer for the first place k of n: the paper's `first` is n where there is none
+-- the answer for the first place k of n: `first` of Parts is n where there is none
 abbrev pub found : ℕ → ℕ → Found
 found n k = pick (ltb k n) (At k) Nothing

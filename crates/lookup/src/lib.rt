@@ -1,4 +1,4 @@
-// Lookups in the room (document 01, "What a tag does"): the first row of a subframe, the first record of a satellite in a row, and
+// Lookups in the room (STORE 11.2, 11.3): the first row of a subframe, the first record of a satellite in a row, and
 // the candidate of a tag. Each yields its index by `break` and refuses on the last.
 ghost use mathlib.Core.Path.{_≡_};
 ghost use mathlib.Core.Bool.{_&&_};
@@ -32,7 +32,7 @@ fn is_marked_at(row: &[u8], week: u16, time: u32) -> bool
     rows::is_at(row, week, time)
 }
 
-// "the first row, from row 0 up, marked with that time"
+// STORE 11.2: the first row, from row 0, that is marked with that time
 pub fn row_marked(room: &[u8], week: u16, time: u32) -> Found
     requires { ⌜ InRange (now room) ⌝ }
     ensures { λ r. ⌜ r ≡ found (depth (now (room .entry))) (firstRow week time (now (room .entry))) ⌝ }
@@ -55,7 +55,7 @@ pub fn row_marked(room: &[u8], week: u16, time: u32) -> Found
     Found::At(first)
 }
 
-// "the first record there of that satellite and family"
+// STORE 11.3: the satellite's first record of the family in a row
 pub fn slot_of(row: &[u8], n: usize, timing: bool, sat: u8) -> Found
     requires { ⌜ (n < 256) × (rowSize n ≤ length (now row)) ⌝ }
     ensures { λ r. ⌜ r ≡ found n (firstSlot (familyIf timing) sat n (now (row .entry))) ⌝ }
@@ -73,7 +73,7 @@ pub fn slot_of(row: &[u8], n: usize, timing: bool, sat: u8) -> Found
     Found::At(first)
 }
 
-// "its greatest age + 1 (held at 255) ≤ COP"
+// STORE 11.3: the greatest age and one more is not above the COP
 fn fits_cop_ced(rec: &[u8], cop: u8) -> bool
     requires { ⌜ length (now rec) ≡ size CED ⌝ }
     ensures { λ r. ⌜ r ≡ fitsCop CED cop (now (rec .entry)) ⌝ }

@@ -1,4 +1,4 @@
--- The paper's answer for what asking came to: 0 with the count, the week and the time, or the refusal's number.
+-- STORE 14.5, for what asking came to: 0 with the count, the week and the time, or the refusal's number.
 use mathlib.Core.List.{[], _∷_}
 use Rattle.paper.specs.Number.{Answer, done, refused}
 use Rattle.refusals.specs.Reply.{numberOf}

@@ -1,5 +1,5 @@
 // The store's calls, under the names of the Rust. Each tests its own input, answers by an enum whose number and values are the
-// paper's, and changes the lent room only where it answers 0.
+// those of STORE 14, and changes the lent room only where it answers 0.
 ghost use mathlib.Core.Path.{_≡_};
 ghost use Rattle.paper.specs.Answer.{freshAnswer, freshRoom, feedAnswer, feedRoom, tagAnswer, tagRoom};
 ghost use Rattle.paper.specs.Answer.{candidateAnswer, candidateData, askAnswer, askData, resetAnswer, resetRoom};

@@ -1,4 +1,4 @@
-// Bytes as wider numbers, and "numbers big-endian": two and four bytes of a slice, read and written. A read is one sum, so that it
+// Bytes as wider numbers, and big-endian ones (STORE 7.2): two and four bytes of a slice, read and written. A read is one sum, so that it
 // becomes one load.
 ghost use mathlib.Core.Path.{_≡_};
 ghost use Prim.Native.Nat.{_+_, _≤_, _<_};

@@ -1,4 +1,4 @@
--- "Numbers handed back", call by call: the number in the paper's order, the answer, the part, and the room afterwards.
+-- STORE 14, call by call: the number in its order, the answer, the part, and the room afterwards.
 use Prim.Native.Nat.{ℕ}
 use mathlib.Core.Bool.{Bool, cond, not, _&&_}
 use mathlib.Core.List.{List, [], _∷_}
@@ -17,15 +17,15 @@ use Rattle.paper.specs.Tag.{kindKnown, familyOf, copAllowed, lengthAllow
 use Rattle.paper.specs.Ask.{answeringRow, answeringRecord, someEnough, timeBefore}
 use Rattle.paper.specs.Reset.{reset}
 
--- "change no byte": the room where the number is not 0
+-- STORE 14.3: the room where the number is not 0
 abbrev pub roomFor : ℕ → List ℕ → List ℕ → List ℕ
 roomFor k after room = cond (eqb k 0) after room
 
--- "hands out an empty one": the part where the number is not 0
+-- STORE 14.4: the part where the number is not 0
 abbrev pub partFor : ℕ → List ℕ → List ℕ
 partFor k part = cond (eqb k 0) part []
 
--- "fresh 1, 2"
+-- STORE 14.2, fresh: 1, 2
 unfoldable pub freshNumber : ℕ → ℕ → List ℕ → ℕ
 freshNumber d n room = unless (sizesAllowed d n) 1 (unless (leb (roomSize d n) (length room)) 2 0)
 
@@ -35,7 +35,7 @@ freshAnswer d n room = answer (freshNumber d n room) []
 unfoldable pub freshRoom : ℕ → ℕ → List ℕ → List ℕ
 freshRoom d n room = roomFor (freshNumber d n room) (fresh d n room) room
 
--- "Word 3, 4, 5, 8, 9"
+-- STORE 14.2, word: 3, 4, 5, 8, 9
 unfoldable pub feedNumber : List ℕ → ℕ → ℕ → ℕ → List ℕ → ℕ
 feedNumber word sat t band room =
     unless (isStore room) 3
@@ -44,17 +44,17 @@ feedNumber word sat t band room =
 abbrev pub feedAnswer : List ℕ → ℕ → ℕ → ℕ → List ℕ → Answer
 feedAnswer word sat t band room = answer (feedNumber word sat t band room) []
 
--- "The word's time is cut to its subframe T"
+-- STORE 10.1: of the word's time its subframe T is used
 unfoldable pub feedRoom : List ℕ → ℕ → ℕ → ℕ → ℕ → List ℕ → List ℕ
 feedRoom word sat w t band room =
     roomFor (feedNumber word sat t band room) (fed w (startOf t) sat band word room) room
 
--- "Tag 3, 4, 5, 6", and what comes later
+-- STORE 14.2, tag: 3, 4, 5, 6, and what comes later
 abbrev pub untilStart : ℕ → ℕ → List ℕ → ℕ → ℕ
 untilStart sat t room later =
     unless (isStore room) 3 (unless (isSatellite sat) 4 (unless (isTime t) 5 (unless (isStart t) 6 later)))
 
--- "8, 9, 7, 16, 10", and what comes later
+-- STORE 14.2, tag: 8, 9, 7, 16, 10, and what comes later
 unfoldable pub untilCandidate : Bool → Bool → ℕ → ℕ → ℕ → ℕ → ℕ → List ℕ → ℕ → ℕ
 untilCandidate allowed known sat kind cop w t room later =
     untilStart sat t room
@@ -63,7 +63,7 @@ untilCandidate allowed known sat kind cop w t room later =
     (unless (eqb (number (thirtyBefore w t)) 0) 7
     (unless (not (eqb cop 0)) 16 (unless (hasCandidate (familyOf kind) sat cop w t room) 10 later)))))
 
--- "11, 17, 18, 0", of the candidate's record
+-- STORE 14.2, tag: 11, 17, 18, 0, of the candidate's record
 abbrev pub fromCandidate : Family → List ℕ → List ℕ → Bool → ℕ → ℕ
 fromCandidate f given rec verdict status =
     unless (givenAgrees f given rec) 11 (unless verdict 17 (unless (statusAdds status) 18 0))
@@ -73,7 +73,7 @@ tagNumber sat kind cop l status w t given verdict room =
     untilCandidate (copAllowed cop && lengthAllowed l) (kindKnown kind && statusKnown status) sat kind cop w t room
     (fromCandidate (familyOf kind) given (candidateRecord (familyOf kind) sat w t room) verdict status)
 
--- "0 done; for a tag, with how many records took it"
+-- STORE 11.8: beside 0 the total
 unfoldable pub tagAnswer : ℕ → ℕ → ℕ → ℕ → ℕ → ℕ → ℕ → List ℕ → Bool → List ℕ → Answer
 tagAnswer sat kind cop l status w t given verdict room =
     answer (tagNumber sat kind cop l status w t given verdict room)
@@ -85,20 +85,20 @@ tagRoom sat kind cop l status w t given verdict room =
     (tagged (familyOf kind) (candidateRecord (familyOf kind) sat w t room) l room)
     room
 
--- "showing the candidate is the same up to 10"
+-- STORE 11.9: a tag's tests up to 10, of COP and kind alone
 unfoldable pub candidateNumber : ℕ → ℕ → ℕ → ℕ → ℕ → List ℕ → ℕ
 candidateNumber sat kind cop w t room = untilCandidate (copAllowed cop) (kindKnown kind) sat kind cop w t room 0
 
 abbrev pub candidateAnswer : ℕ → ℕ → ℕ → ℕ → ℕ → List ℕ → Answer
 candidateAnswer sat kind cop w t room = answer (candidateNumber sat kind cop w t room) []
 
--- "shows the candidate's data as part of the room"
+-- STORE 11.9: the candidate's data, a part of the room
 unfoldable pub candidateData : ℕ → ℕ → ℕ → ℕ → ℕ → List ℕ → List ℕ
 candidateData sat kind cop w t room =
     partFor (candidateNumber sat kind cop w t room)
     (dataOf (familyOf kind) (candidateRecord (familyOf kind) sat w t room))
 
--- "Asking 3, 4, 12, 7"
+-- STORE 14.2, asking: 3, 4, 12, 7
 unfoldable pub askNumber : Family → ℕ → List ℕ → ℕ
 askNumber f sat room =
     unless (isStore room) 3
@@ -106,7 +106,7 @@ askNumber f sat room =
     (unless (someEnough f sat room) 12
     (unless (eqb (number (timeBefore f (answeringRow f sat room) (answeringRecord f sat room))) 0) 7 0)))
 
--- "its data, its count, and its row's subframe less 30 s × its least age"
+-- STORE 12.3: beside 0 the count and the time
 unfoldable pub askAnswer : Family → ℕ → List ℕ → Answer
 askAnswer f sat room =
     let rec = answeringRecord f sat room in
@@ -115,7 +115,7 @@ askAnswer f sat room =
 unfoldable pub askData : Family → ℕ → List ℕ → List ℕ
 askData f sat room = partFor (askNumber f sat room) (dataOf f (answeringRecord f sat room))
 
--- "Reset 3"
+-- STORE 14.2, reset: 3
 unfoldable pub resetNumber : List ℕ → ℕ
 resetNumber room = unless (isStore room) 3 0
 

@@ -1,4 +1,4 @@
--- "What asking does".
+-- STORE 12: asking.
 use Prim.Native.Nat.{ℕ, _+_, _-_}
 use mathlib.Core.Bool.{Bool, cond, _&&_}
 use mathlib.Core.List.{List}
@@ -10,7 +10,7 @@ use Rattle.paper.specs.Record.{Family, satellite, count, agesOf, least}
 use Rattle.paper.specs.Room.{depth, slots, current, rowOf, week, time, recordOf}
 use Rattle.paper.specs.Time.{addSubframes}
 
--- "a count of at least 40"
+-- STORE 12.1: the count that answers
 abbrev pub leastCount : ℕ
 leastCount = 40
 
@@ -21,7 +21,7 @@ hasEnough sat rec = eqb (satellite rec) sat && leb leastCount (count rec)
 unfoldable pub enoughSlot : Family → ℕ → ℕ → List ℕ → ℕ
 enoughSlot f sat n row = first (λ (i : ℕ). hasEnough sat (recordOf f i row)) n
 
--- "From the current row backward through the ring": the row j before row c of d
+-- STORE 12.1, backward around the ring: the row j before row c of d
 unfoldable pub rowBack : ℕ → ℕ → ℕ → ℕ
 rowBack d c j = cond (leb j c) (c - j) (d + c - j)
 
@@ -42,10 +42,10 @@ answeringRecord f sat room =
     let row = answeringRow f sat room in
     recordOf f (enoughSlot f sat (slots room) row) row
 
--- "no record of the satellite has 40" is 12: the test that one has
+-- STORE 12.1: where no record has enough it is 12; the test that one has
 unfoldable pub someEnough : Family → ℕ → List ℕ → Bool
 someEnough f sat room = ltb (stepsBack f sat room) (depth room)
 
--- "its row's subframe less 30 s × its least age"
+-- STORE 12.3: the row's subframe less 30 s for each of the record's least age
 unfoldable pub timeBefore : Family → List ℕ → List ℕ → Answer
 timeBefore f row rec = addSubframes (week row) (time row) (negℤ (pos (least (agesOf f rec))))

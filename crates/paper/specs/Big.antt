@@ -1,4 +1,4 @@
--- "numbers big-endian": two and four bytes at a place of a list of bytes.
+-- STORE 7.2, big-endian numbers: two and four bytes at a place of a list of bytes.
 use Prim.Native.Nat.{ℕ, _+_, _*_, _/_, _%_}
 use mathlib.Core.List.{List}
 use lib.ListN.{getD, set}

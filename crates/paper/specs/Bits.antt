@@ -1,4 +1,4 @@
--- "Words": bits of a list of bytes, "bit 0 the top bit of the first byte", and a move of bits.
+-- STORE 5.1: bits of a list of bytes, from the top bit of the first byte on, and a move of bits.
 use Prim.Native.Nat.{ℕ, zero, suc, _+_, _-_, _*_, _/_, _%_, _^_}
 use mathlib.Core.Bool.{Bool, true, false, cond}
 use mathlib.Core.List.{List}

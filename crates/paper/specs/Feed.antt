@@ -1,4 +1,4 @@
--- "What a word does": the ring, the choice of a record, and the room after a word.
+-- STORE 10: the ring, the choice of a record, and the room after a word.
 use Prim.Native.Nat.{ℕ, zero, suc, _+_, _*_}
 use mathlib.Core.Bool.{Bool, cond, not, _&&_}
 use mathlib.Core.List.{List}
@@ -10,25 +10,25 @@ use Rattle.paper.specs.Record.{Family, CED, Timing, size, satellite, age
 use Rattle.paper.specs.Room.{currentAt, markAt, weekAt, timeAt, headSize, slotSize, rowSize, depth, slots, current, rowAt, rowOf, marked, isAt, recordAt, recordOf, eachRecord}
 use Rattle.paper.specs.Word.{fedRecord}
 
--- "the next row (after the last comes row 0)"
+-- STORE 10.3: the next row; row 0 is behind the last
 unfoldable pub nextRow : ℕ → ℕ → ℕ
 nextRow d c = cond (ltb (c + 1) d) (c + 1) 0
 
--- "If the current row has a subframe other than T": T is week w, time t
+-- STORE 10.2: the current row is marked with another subframe than T, which is week w, time t
 unfoldable pub moves : ℕ → ℕ → List ℕ → Bool
 moves w t room = let row = rowOf (current room) room in marked row && not (isAt w t row)
 
--- "takes a copy of all records": those of the row at `from` in the row at `to`
+-- STORE 10.3: the slots of the row at `from`, copied to the row at `to`
 unfoldable pub copied : ℕ → ℕ → ℕ → List ℕ → List ℕ
 copied n from to room =
     let records = part (from + headSize) (n * slotSize) room in
     onPart (λ (_ : List ℕ). records) (to + headSize) (n * slotSize) room
 
--- "all its ages rise by one, held at 255"
+-- STORE 10.3: every age of the row one more
 unfoldable pub agedRow : ℕ → List ℕ → List ℕ
 agedRow n row = let c = eachRecord CED n (aged CED 1) row in eachRecord Timing n (aged Timing 1) c
 
--- "the next row .. takes a copy of all records, becomes current, and all its ages rise by one"
+-- STORE 10.3: the next row filled by the copy, current, and aged
 unfoldable pub advanced : List ℕ → List ℕ
 advanced room =
     let n = slots room in
@@ -36,11 +36,11 @@ advanced room =
     let c = copied n (rowAt n (current room)) (rowAt n to) room in
     onPart (agedRow n) (rowAt n to) (rowSize n) (set c currentAt to)
 
--- "marked T"
+-- a row marked T
 unfoldable pub markedAt : ℕ → ℕ → List ℕ → List ℕ
 markedAt w t row = let m = put16 (set row markAt 1) weekAt w in put32 m timeAt t
 
--- "The current row is then marked T"
+-- STORE 10.4: the current row marked T
 unfoldable pub currentMarked : ℕ → ℕ → List ℕ → List ℕ
 currentMarked w t room = onPart (markedAt w t) (rowAt (slots room) (current room)) (rowSize (slots room)) room
 
@@ -48,11 +48,11 @@ currentMarked w t room = onPart (markedAt w t) (rowAt (slots room) (current room
 unfoldable pub settled : ℕ → ℕ → List ℕ → List ℕ
 settled w t room = let r = cond (moves w t room) (advanced room) room in currentMarked w t r
 
--- "257 for the same satellite, 256 for none, else its greatest age"
+-- STORE 10.5: the key of a record
 unfoldable pub key : Family → ℕ → List ℕ → ℕ
 key f sat rec = cond (eqb (satellite rec) sat) 257 (cond (eqb (satellite rec) 0) 256 (greatest (agesOf f rec)))
 
--- "the place of the greatest key, the last of equals", among the first n places
+-- STORE 10.5: the last of the places with the greatest key, among the first n places
 unfoldable pub lastGreatest : (ℕ → ℕ) → ℕ → ℕ
 lastGreatest k zero = 0
 lastGreatest k (suc n) = let b = lastGreatest k n in cond (leb (k b) (k n)) n b
@@ -61,7 +61,7 @@ lastGreatest k (suc n) = let b = lastGreatest k n in cond (leb (k b) (k n)) n b
 unfoldable pub chosen : Family → ℕ → ℕ → List ℕ → ℕ
 chosen f sat n row = lastGreatest (λ (i : ℕ). key f sat (recordOf f i row)) n
 
--- "one CED record and one timing record of the current row is chosen": the row after one of them took the word
+-- STORE 10.5, 10.6: the row after the chosen record of a family took the word
 unfoldable pub fedFamily : Family → ℕ → ℕ → ℕ → List ℕ → List ℕ → List ℕ
 fedFamily f n sat band word row =
     let i = chosen f sat n row in

@@ -1,4 +1,4 @@
--- "Fresh room": all rows blank, row 0 current, data zero, ages 255, no satellites, counts 0.
+-- STORE 9.1: a fresh store.
 use Prim.Native.Nat.{ℕ, _-_}
 use mathlib.Core.List.{List, _∷_, _++_}
 use lib.ListN.{replicate}
@@ -6,7 +6,7 @@ use Rattle.paper.specs.Parts.{onPart, onParts}
 use Rattle.paper.specs.Record.{CED, Timing, blankRecord}
 use Rattle.paper.specs.Room.{currentAt, headerSize, headSize, slotSize, rowSize}
 
--- "D, N, current row, five zeros"
+-- STORE 7.3: D, N, row 0 as the current one, and zeros
 abbrev pub header : ℕ → ℕ → List ℕ
 header d n = d ∷ n ∷ replicate (headerSize - currentAt) 0
 

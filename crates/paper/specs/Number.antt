@@ -1,9 +1,9 @@
--- "Numbers handed back": what a call answers, and the order of its refusals.
+-- STORE 14: what a call answers, and the order of its refusals.
 use Prim.Native.Nat.{ℕ, zero, suc}
 use mathlib.Core.Bool.{Bool, cond}
 use mathlib.Core.List.{List, []}
 
--- 0 comes with its values; "all but 0 carry no data"
+-- 0 comes with its values; STORE 14.3: a refusal with none
 pub data Answer : Type 0 where
   done : List ℕ → Answer
   refused : ℕ → Answer
@@ -18,7 +18,7 @@ abbrev pub values : Answer → List ℕ
 values (done v) = v
 values (refused k) = []
 
--- "Order": the number k unless the test holds, and what comes later if it does
+-- STORE 14.2: the number k unless the test holds, and what comes later if it does
 abbrev pub unless : Bool → ℕ → ℕ → ℕ
 unless test k later = cond test later k
 

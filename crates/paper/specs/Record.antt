@@ -1,4 +1,4 @@
--- "Records": the two kinds, their sizes, and the parts of a record.
+-- STORE 6: the two kinds, their sizes, and the parts of a record.
 use Prim.Native.Nat.{ℕ, _+_, _-_, _/_, _^_, min, max}
 use mathlib.Core.Bool.{Bool, true, false, _&&_}
 use mathlib.Core.List.{List, [], _∷_, _++_, map}
@@ -7,7 +7,7 @@ use lib.Dec.{eqb}
 use Rattle.paper.specs.Parts.{part, onPart}
 use Rattle.paper.specs.Big.{be16, put16}
 
--- "CED" and "Timing": a family of records
+-- a family of records
 pub data Family : Type 0 where
   CED : Family
   Timing : Family
@@ -23,17 +23,17 @@ sameFamily CED Timing = false
 sameFamily Timing CED = false
 sameFamily Timing Timing = true
 
--- "549 bits", "141 bits"
+-- STORE 6: the bits of its data
 abbrev pub recordBits : Family → ℕ
 recordBits CED = 549
 recordBits Timing = 141
 
--- "in 69 bytes", "in 18 bytes"
+-- and the bytes that they lie in
 abbrev pub dataBytes : Family → ℕ
 dataBytes CED = 69
 dataBytes Timing = 18
 
--- "five ages", "two ages"
+-- and its ages
 abbrev pub ages : Family → ℕ
 ages CED = 5
 ages Timing = 2
@@ -42,7 +42,7 @@ ages Timing = 2
 abbrev pub satelliteAt : ℕ
 satelliteAt = 0
 
--- its count is "two bytes"
+-- its count is two bytes
 abbrev pub countAt : ℕ
 countAt = satelliteAt + 1
 
@@ -58,11 +58,11 @@ dataAt f = agesAt + ages f
 abbrev pub size : Family → ℕ
 size f = dataAt f + dataBytes f
 
--- "A record also has a satellite or none": 0 is none
+-- STORE 6.2: its satellite, 0 for none
 abbrev pub satellite : List ℕ → ℕ
 satellite rec = getD rec satelliteAt 0
 
--- "a count 0 to 65535 in two bytes"
+-- STORE 6.2: its count
 abbrev pub count : List ℕ → ℕ
 count rec = be16 rec countAt
 
@@ -77,7 +77,7 @@ agesOf f rec = part agesAt (ages f) rec
 abbrev pub dataOf : Family → List ℕ → List ℕ
 dataOf f rec = part (dataAt f) (dataBytes f) rec
 
--- "The three bits past the end"
+-- STORE 6.3: the bits past the end
 abbrev pub bitsPast : ℕ
 bitsPast = 3
 
@@ -96,7 +96,7 @@ sameList [] (y ∷ ys) = false
 sameList (x ∷ xs) [] = false
 sameList (x ∷ xs) (y ∷ ys) = let r = sameList xs ys in eqb x y && r
 
--- "all its bits": two data agree in their 549 or 141 bits
+-- STORE 6.4: two data agree in their 549 or 141 bits
 unfoldable pub sameBits : Family → List ℕ → List ℕ → Bool
 sameBits f a b = sameList (inBits f a) (inBits f b)
 
@@ -112,28 +112,28 @@ withAges f new rec = onPart (λ (_ : List ℕ). new) agesAt (ages f) rec
 abbrev pub oldest : ℕ
 oldest = 255
 
--- "ages 255"
+-- STORE 9.1, 10.6: every age the greatest
 abbrev pub neverThere : Family → List ℕ → List ℕ
 neverThere f rec = withAges f (replicate (ages f) oldest) rec
 
--- an age so much more, "held at 255"
+-- STORE 6.5: an age so much more, held at the greatest
 abbrev pub older : ℕ → ℕ → ℕ
 older by a = min oldest (a + by)
 
--- "all its ages rise by one": a record whose ages are so much more
+-- STORE 6.5: a record whose ages are so much more
 unfoldable pub aged : Family → ℕ → List ℕ → List ℕ
 aged f by rec = onPart (map (older by)) agesAt (ages f) rec
 
--- "its greatest age"
+-- STORE 6.5: the greatest of some ages
 unfoldable pub greatest : List ℕ → ℕ
 greatest [] = 0
 greatest (a ∷ l) = max a (greatest l)
 
--- "its least age"
+-- STORE 6.5: the least of some ages
 unfoldable pub least : List ℕ → ℕ
 least [] = oldest
 least (a ∷ l) = min a (least l)
 
--- "data zero, ages 255, no satellites, counts 0"
+-- STORE 9.1: a record of a fresh store
 unfoldable pub blankRecord : Family → List ℕ
 blankRecord f = neverThere f (replicate (size f) 0)

@@ -1,4 +1,4 @@
--- "Resetting puts all counts to 0."
+-- STORE 13.1: every count 0.
 use mathlib.Core.List.{List}
 use Prim.Native.Nat.{ℕ}
 use Rattle.paper.specs.Record.{CED, Timing, withCount}

@@ -1,4 +1,4 @@
--- "Store": the lent room, byte by byte, and changes of all records of a row or of the room.
+-- STORE 7: the lent room, byte by byte, and changes of all records of a row or of the room.
 use Prim.Native.Nat.{ℕ, _+_, _*_}
 use mathlib.Core.Bool.{Bool, cond, _&&_}
 use mathlib.Core.List.{List}
@@ -8,15 +8,15 @@ use Rattle.paper.specs.Big.{be16, be32}
 use Rattle.paper.specs.Parts.{part, onPart, onParts, sumParts}
 use Rattle.paper.specs.Record.{Family, CED, Timing, size}
 
--- "D 1 to 16"
+-- STORE 7.1: the most rows, D
 abbrev pub mostRows : ℕ
 mostRows = 16
 
--- "N 1 to 36"
+-- STORE 7.1: the most slots, N
 abbrev pub mostSlots : ℕ
 mostSlots = 36
 
--- "Header: D, N, current row, five zeros": where each starts, behind the one before it
+-- STORE 7.3, D, N, the current row and five zeros: where each starts, behind the one before it
 abbrev pub depthAt : ℕ
 depthAt = 0
 
@@ -33,7 +33,7 @@ zerosAt = currentAt + 1
 abbrev pub headerSize : ℕ
 headerSize = zerosAt + 5
 
--- "A row starts with its mark, week 2, time 4 and a spare zero": where each starts in the row
+-- STORE 7.4, a mark, a week, a time and a spare byte: where each starts in the row
 abbrev pub markAt : ℕ
 markAt = 0
 
@@ -62,11 +62,11 @@ slotSize = base Timing + size Timing
 abbrev pub slotAt : ℕ → ℕ
 slotAt i = headSize + i * slotSize
 
--- "8 + 100 × N": a row
+-- STORE 7.2: the bytes of a row
 abbrev pub rowSize : ℕ → ℕ
 rowSize n = headSize + n * slotSize
 
--- "8 + D × (8 + 100 × N) bytes": the formula's length
+-- STORE 7.2: the formula's length
 abbrev pub roomSize : ℕ → ℕ → ℕ
 roomSize d n = headerSize + d * rowSize n
 
@@ -88,7 +88,7 @@ rowAt n r = headerSize + r * rowSize n
 abbrev pub rowOf : ℕ → List ℕ → List ℕ
 rowOf r room = part (rowAt (slots room) r) (rowSize (slots room)) room
 
--- "its mark (0 blank, 1 marked)"
+-- STORE 7.4: 0 is blank, 1 is marked
 abbrev pub mark : List ℕ → ℕ
 mark row = getD row markAt 0
 

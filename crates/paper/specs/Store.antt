@@ -1,4 +1,4 @@
--- Refusal 3, "not a store": the test that a room is one, clause by clause.
+-- STORE 8, refusal 3: the test that a room is a store, clause by clause.
 use Prim.Native.Nat.{ℕ, _+_, _-_, _%_, _<_, _≤_}
 use mathlib.Core.Bool.{Bool, cond, not, _&&_, _||_}
 use mathlib.Core.List.{List}
@@ -11,15 +11,15 @@ use Rattle.paper.specs.Room.{mostRows, mostSlots, zerosAt, headerSize, h
 use Rattle.paper.specs.Satellite.{mostSatellites}
 use Rattle.paper.specs.Time.{lastStart, isStart}
 
--- "D or N outside its range": the test that neither is
+-- STORE 7.1: the test that D and N are in range
 abbrev pub sizesAllowed : ℕ → ℕ → Bool
 sizesAllowed d n = leb 1 d && leb d mostRows && leb 1 n && leb n mostSlots
 
--- "D, N or current row outside its range", none of them
+-- STORE 8.1: D, N and the current row are in range
 unfoldable pub headerInRange : List ℕ → Bool
 headerInRange room = sizesAllowed (depth room) (slots room) && ltb (current room) (depth room)
 
--- what every call goes by: D, N and the current row in range, and the room no "shorter than the formula"
+-- what every call goes by: STORE 8.1 and 8.2, D, N and the current row in range, and the room no shorter than the formula's length
 pub record InRange (room : List ℕ) : Type 0 where
   pub long : headerSize ≤ length room
   pub someRow : 1 ≤ depth room
@@ -29,19 +29,19 @@ pub record InRange (room : List ℕ) : Type 0 where
   pub inRing : current room < depth room
   pub fits : roomSize (depth room) (slots room) ≤ length room
 
--- "a header zero .. not zero", none of the five
+-- STORE 8.3: the five zeros of the header
 unfoldable pub headerZeros : List ℕ → Bool
 headerZeros room = eqb (getD room zerosAt 0) 0 && eqb (be32 room (zerosAt + 1)) 0
 
--- "a satellite above 36"; in a blank row any satellite is one too many
+-- STORE 8.7: no satellite above the greatest; in a blank row any satellite is one too many
 unfoldable pub satelliteAllowed : ℕ → List ℕ → Bool
 satelliteAllowed most rec = leb (satellite rec) most
 
--- "a count without a satellite", and so a count in a blank row
+-- STORE 8.8: no count without a satellite, and so none in a blank row
 unfoldable pub countHasSatellite : List ℕ → Bool
 countHasSatellite rec = not (eqb (satellite rec) 0) || eqb (count rec) 0
 
--- "a bit set past a record's 549 or 141": the last three bits of its last byte
+-- STORE 8.9: the last three bits of its last byte
 unfoldable pub noBitPast : Family → List ℕ → Bool
 noBitPast f rec = eqb (getD rec (size f - 1) 0 % lastWeight) 0
 
@@ -54,15 +54,15 @@ slotAllowed most slot =
     recordAllowed CED most (part (base CED) (size CED) slot)
     && recordAllowed Timing most (part (base Timing) (size Timing) slot)
 
--- "a row's spare byte not zero", "a mark not 0 or 1"
+-- STORE 8.3, 8.4: the spare byte and the mark of a row
 unfoldable pub markAllowed : List ℕ → Bool
 markAllowed row = leb (mark row) 1 && eqb (spare row) 0
 
--- "a marked row whose time is not a multiple of 30 up to 604770"
+-- STORE 8.5: the time of a marked row
 unfoldable pub subframeAllowed : List ℕ → Bool
 subframeAllowed row = leb (time row) lastStart && isStart (time row)
 
--- "a blank row with a week, time .. not zero"
+-- STORE 8.6: the week and the time of a blank row
 unfoldable pub blankAllowed : List ℕ → Bool
 blankAllowed row = eqb (week row) 0 && eqb (time row) 0
 
@@ -76,7 +76,7 @@ rowAllowed n row =
     && cond (eqb (mark row) 0) (blankAllowed row) (subframeAllowed row)
     && allParts (slotAllowed (mostIn row)) slotSize n headSize row
 
--- a room is a store: it has a header, "room shorter than the formula" does not hold, and every row is allowed
+-- a room is a store: it has a header and the formula's length (STORE 8.2), and every row is allowed
 unfoldable pub isStore : List ℕ → Bool
 isStore room =
     leb headerSize (length room)

@@ -1,4 +1,4 @@
--- "Time rules": a week 0 to 65535 and a time of week 0 to 604799.
+-- STORE 3: times, a week and a time of week.
 use Prim.Native.Nat.{ℕ, _+_, _-_, _*_, _/_, _%_}
 use mathlib.Core.Bool.{Bool, cond, _&&_}
 use mathlib.Core.List.{[], _∷_}
@@ -11,35 +11,35 @@ use Rattle.paper.specs.Number.{Answer, done, refused}
 abbrev pub weekSeconds : ℕ
 weekSeconds = 604800
 
--- "30 s subframes"
+-- the seconds of a subframe
 abbrev pub subframeSeconds : ℕ
 subframeSeconds = 30
 
--- the subframes of a week, "20160"
+-- the subframes of a week, 20160
 abbrev pub weekSubframes : ℕ
 weekSubframes = weekSeconds / subframeSeconds
 
--- the start of the last subframe of a week, "604770"
+-- the start of the last subframe of a week, 604770
 abbrev pub lastStart : ℕ
 lastStart = weekSeconds - subframeSeconds
 
--- "A week 0 to 65535"
+-- STORE 3.1: the greatest week
 abbrev pub lastWeek : ℕ
 lastWeek = 65535
 
--- "Subframes outside −71582788 to 71582788"
+-- STORE 3.6: the most subframes that can be added or taken
 abbrev pub mostSubframes : ℕ
 mostSubframes = 71582788
 
--- "time of week above 604799" is 5: the test that it is not
+-- STORE 3.1: else it is 5; the test that it is a time of week
 abbrev pub isTime : ℕ → Bool
 isTime t = ltb t weekSeconds
 
--- "is it a start"
+-- STORE 3.4: a start
 abbrev pub isStart : ℕ → Bool
 isStart t = eqb (t % subframeSeconds) 0
 
--- "start of the subframe"
+-- STORE 3.4: the start of its subframe
 abbrev pub startOf : ℕ → ℕ
 startOf t = t / subframeSeconds * subframeSeconds
 
@@ -47,12 +47,12 @@ startOf t = t / subframeSeconds * subframeSeconds
 abbrev pub secondsOf : ℕ → ℕ → ℕ
 secondsOf w t = w * weekSeconds + t
 
--- the time so many seconds from the start of week 0; 7 if "the week leaves 0 to 65535"
+-- the time so many seconds from the start of week 0; STORE 3.5: 7 outside of the weeks
 unfoldable pub timeAt : ℤ → Answer
 timeAt (pos s) = cond (leb (s / weekSeconds) lastWeek) (done (s / weekSeconds ∷ s % weekSeconds ∷ [])) (refused 7)
 timeAt (negsuc s) = refused 7
 
--- "Adding s seconds gives the exact sum; refused with 7 if s ≤ −604800"
+-- STORE 3.5: the exact sum; 7 for a week or more back
 unfoldable pub sumOf : ℕ → ℕ → ℤ → Answer
 sumOf w t s = cond (leZ s (negℤ (pos weekSeconds))) (refused 7) (timeAt (pos (secondsOf w t) +ℤ s))
 
@@ -80,7 +80,7 @@ pub data Difference : Type 0 where
   subframes : ℤ → Difference
   noDifference : ℕ → Difference
 
--- "(weeks apart) × 20160 plus (times of week apart) / 30, that quotient rounded toward zero"; 5 for either time
+-- STORE 3.7: weeks apart in subframes, plus seconds apart in subframes, rounded toward zero; 5 for either time
 unfoldable pub difference : ℕ → ℕ → ℕ → ℕ → Difference
 difference w t w' t' =
     cond (isTime t && isTime t')

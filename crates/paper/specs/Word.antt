@@ -1,4 +1,4 @@
--- "What a word does": the table of words, and what a word does to one record.
+-- STORE 5, 10.6 to 10.8: the table of words, and what a word does to one record.
 use Prim.Native.Nat.{ℕ, _+_, _-_, _*_, _/_, _<_, _≤_}
 use mathlib.Core.Bool.{Bool, true, false, cond, not, _&&_, _||_}
 use mathlib.Core.List.{List, [], _∷_}
@@ -8,14 +8,14 @@ use Rattle.paper.specs.Bits.{moved, changed}
 use Rattle.paper.specs.Parts.{onPart}
 use Rattle.paper.specs.Record.{Family, CED, Timing, sameFamily, recordBits, dataBytes, ages, satelliteAt, agesAt, dataAt, satellite, dataOf, withCount, neverThere}
 
--- "16 bytes", and their bits
+-- STORE 5.1: the bytes of a word, and their bits
 abbrev pub wordBytes : ℕ
 wordBytes = 16
 
 abbrev pub wordBits : ℕ
 wordBits = 8 * wordBytes
 
--- a line of the table: type, "E1B only", record bits, word bits ("upper ends are excluded"), age
+-- a line of the table: type, E1B only or not, record bits, word bits, with upper ends excluded, and age
 pub record Line : Type 0 where
   pub family : Family
   pub type : ℕ
@@ -30,7 +30,7 @@ abbrev line : Family → ℕ → Bool → ℕ → ℕ → ℕ → ℕ → ℕ �
 line f k e a b c d g =
     record { family = f; type = k; onlyE1B = e; recordFrom = a; recordTo = b; wordFrom = c; wordTo = d; age = g }
 
--- the table of document 01
+-- STORE 5.4: the table of words
 unfoldable pub table : List Line
 table =
     line CED 1 false 0 120 6 126 0
@@ -60,7 +60,7 @@ unfoldable pub covers : Family → ℕ → List Line → Bool
 covers f k [] = eqb k (recordBits f)
 covers f k (l ∷ ls) = cond (sameFamily (l .family) f) (eqb (l .recordFrom) k && covers f (l .recordTo) ls) (covers f k ls)
 
--- "the part of the record that the word owns": so many bits to a bit of the record from a bit of the word, and an age
+-- STORE 5.4: the part that a word owns: so many bits to a bit of the record from a bit of the word, and an age
 pub data Owned : Type 0 where
   nothing : Owned
   owns : ℕ → ℕ → ℕ → ℕ → Owned
@@ -74,7 +74,7 @@ abbrev pub pick : Bool → Owned → Owned → Owned
 pick true a b = a
 pick false a b = b
 
--- the line for a family, a type and a band ("Bands: 0 E1B, 1 E5B"), as what the word owns
+-- the line for a family, a type and a band (STORE 5.3), as what the word owns
 unfoldable pub ownedIn : List Line → Family → ℕ → ℕ → Owned
 ownedIn [] f k band = nothing
 ownedIn (l ∷ ls) f k band =
@@ -90,13 +90,13 @@ owned f k band = ownedIn table f k band
 abbrev pub typeOf : List ℕ → ℕ
 typeOf word = getD word 0 0 / 4
 
--- "If it held another satellite, its ages become 255 and its count 0; its data stays. It takes the satellite"
+-- STORE 10.6: the takeover
 unfoldable pub taken : Family → ℕ → List ℕ → List ℕ
 taken f sat rec =
     let mine = set rec satelliteAt sat in
     cond (eqb (satellite rec) sat || eqb (satellite rec) 0) mine (neverThere f (withCount 0 mine))
 
--- "Only the part of the record that the word owns is written; if it changed, the count becomes 0. The age becomes 0."
+-- STORE 10.7, 10.8: the bits that the word owns, its age 0, and the count 0 if one of the bits changed
 unfoldable pub written : Family → Owned → List ℕ → List ℕ → List ℕ
 written f nothing word rec = rec
 written f (owns to from n age) word rec =

@@ -1,1 +1,1 @@
-// The definitions of document 01 stand in specs/, their laws in proofs/; there is no code here.
+// The definitions of the rules of docs/STORE.md stand in specs/, their laws in proofs/; there is no code here.

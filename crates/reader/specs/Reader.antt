@@ -1,4 +1,4 @@
--- "Bench program": standard input taken byte by byte, so that it may come in pieces of any size, and what is printed for it.
+-- STORE 17: standard input taken byte by byte, so that it may come in pieces of any size, and what is printed for it.
 use Prim.Native.Nat.{ℕ, zero, suc, _+_, _≤_}
 use mathlib.Core.Path.{_≡_}
 use mathlib.Core.Bool.{Bool, true, false, cond}
@@ -41,7 +41,7 @@ traceOf false room = []
 unfoldable pub linesFor : Bool → Kind → List ℕ → List ℕ → List ℕ
 linesFor traced kind body room = recordLine kind body room ++ traceOf traced (recordRoom kind body room)
 
--- "After 13 or 14, letter x, it stops"
+-- STORE 17.4: an unknown kind stops the program
 abbrev pub isUnknown : Kind → Bool
 isUnknown Word = false
 isUnknown Tag = false
@@ -73,12 +73,12 @@ unfoldable pub more : Bool → Bench → List ℕ → Bench
 more traced s [] = s
 more traced s (b ∷ l) = let t = oneMore traced s b in more traced t l
 
--- "14 .. input ends inside a record": what is printed behind the last byte of the input, by how many bytes are kept
+-- STORE 17.4, 14: what is printed behind the last byte of the input, by how many bytes are kept
 abbrev pub restOf : Bool → List ℕ → ℕ → List ℕ
 restOf traced room zero = []
 restOf traced room (suc n) = lineOf Unknown 0 (refused 14) [] ++ traceOf traced room
 
--- "Its room is 57,736 bytes, zero at the start": a store of the largest sizes takes as many
+-- STORE 17.5: the room of the program, as many bytes as a store of the largest sizes takes
 abbrev pub benchRoom : ℕ
 benchRoom = roomSize mostRows mostSlots
 

@@ -1,5 +1,5 @@
-// Standard input of the bench program taken apart into records, in pieces of any size, and what is printed for it (document 01,
-// "Bench program"). The programs `bench`, `trace` and `replay` are `run`.
+// Standard input of the bench program taken apart into records, in pieces of any size, and what is printed for it (STORE 17).
+// The programs `bench`, `trace` and `replay` are `run`.
 use layout::MOST_ROOM;
 use libc::STDERR_FILENO;
 use libc::STDIN_FILENO;

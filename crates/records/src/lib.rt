@@ -15,16 +15,16 @@ pub const COUNT_AT: usize = SATELLITE_AT + 1;
 // its ages are a byte each, and its data comes behind them
 pub const AGES_AT: usize = COUNT_AT + 2;
 
-// "a count 0 to 65535"
+// STORE 6.2: the greatest count
 pub const MOST_COUNT: u16 = 65535;
 
 // The greatest age there is: as old as that, or never there.
 pub const OLDEST: u8 = 255;
 
-// "The three bits past the end": what the lowest bit of the last byte that is data weighs there.
+// STORE 6.3, the bits past the end: what the lowest bit of the last byte that is data weighs there.
 pub const LAST_WEIGHT: u8 = 8;
 
-// "CED: 549 bits in 69 bytes, five ages."
+// STORE 6: the sizes of a CED record.
 pub struct Ced;
 
 impl Ced {
@@ -81,7 +81,7 @@ impl Ced {
     }
 }
 
-// "Timing: 141 bits in 18 bytes, two ages."
+// STORE 6: the sizes of a timing record.
 pub struct Timing;
 
 impl Timing {
@@ -175,7 +175,7 @@ fn copy(to: &mut [u8], from: &[u8])
     }
 }
 
-// An age so much more, "held at 255".
+// STORE 6.5: an age so much more, held at the greatest.
 pub fn one_older(age: u8, by: u8) -> u8
     ensures { λ r. ⌜ r ≡ older by age ⌝ }
 {

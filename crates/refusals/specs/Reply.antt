@@ -1,4 +1,4 @@
--- The paper's number for each refusal, and its answer for each reply.
+-- The number for each refusal, and the answer for each reply.
 use Prim.Native.Nat.{ℕ}
 use mathlib.Core.List.{[]}
 use Rattle.paper.specs.Number.{Answer, done, refused}
@@ -8,7 +8,7 @@ use Rattle.refusals.specs.declared.Refusal.the-variants.{Unknown, NoCand
 use Rattle.refusals.specs.declared.Reply.{Reply}
 use Rattle.refusals.specs.declared.Reply.the-variants.{Done, Refused}
 
--- the table of "Numbers handed back"
+-- STORE 14.1: the numbers
 abbrev pub numberOf : Refusal → ℕ
 numberOf Sizes = 1
 numberOf TooShort = 2
@@ -26,7 +26,7 @@ numberOf Dummy = 16
 numberOf VerdictNo = 17
 numberOf StatusAddsNothing = 18
 
--- the paper's answer: 0 with no values, or the refusal's number
+-- STORE 14.5: 0 with no values, or the refusal's number
 abbrev pub replyAnswer : Reply → Answer
 replyAnswer Done = done []
 replyAnswer (Refused why) = refused (numberOf why)

@@ -1,9 +1,9 @@
-// "Numbers handed back": why a call refuses, and the reply of a call that has no values beside its number.
+// STORE 14: why a call refuses, and the reply of a call that has no values beside its number.
 ghost use mathlib.Core.Path.{_≡_};
 ghost use Prim.Native.Nat.{_<_};
 ghost use Rattle.refusals.specs.Reply.{numberOf};
 
-// The refusals of the calls; each has its number in the table of document 01.
+// The refusals of the calls; each has its number in STORE 14.1.
 pub enum Refusal {
     // 1: D or N outside its range
     Sizes,

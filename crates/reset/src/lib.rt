@@ -1,4 +1,4 @@
-// "Resetting puts all counts to 0": those of the CED records in every row, and then those of the timing records.
+// STORE 13.1, every count 0: those of the CED records in every row, and then those of the timing records.
 ghost use mathlib.Core.Path.{_≡_};
 ghost use Prim.Native.Nat.{_≤_, _<_};
 ghost use lib.ListN.{length};

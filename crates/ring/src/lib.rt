@@ -1,4 +1,4 @@
-// The ring of rows (document 01, "What a word does"): before a word's records are chosen, the current row is settled for the
+// The ring of rows (STORE 10.2 to 10.4): before a word's records are chosen, the current row is settled for the
 // word's subframe. Where it has another subframe, the next row takes a copy of all records, becomes current and ages by one.
 ghost use mathlib.Core.Path.{_≡_};
 ghost use mathlib.Core.Bool.{cond};
@@ -17,7 +17,7 @@ use layout::TIMING_AT;
 use records::Ced;
 use records::Timing;
 
-// "takes a copy of all records": forward, so that a row may be copied onto itself, as where D is 1.
+// STORE 10.3, the copy: forward, so that a row may be copied onto itself, as where D is 1.
 pub fn copy_records(room: &mut [u8], n: usize, from: usize, to: usize)
     requires { ⌜ (to ≤ from) ⊎ (from + rowSize n ≤ to) ⌝ }
     requires { ⌜ (from + rowSize n ≤ length (now room)) × (to + rowSize n ≤ length (now room)) ⌝ }
@@ -58,7 +58,7 @@ fn age_slot(slot: &mut [u8], by: u8)
     age_timing(&mut slot[TIMING_AT..SLOT], by);
 }
 
-// "all its ages rise by one, held at 255"
+// STORE 10.3: every age of the row one more
 pub fn age_row(row: &mut [u8], n: usize)
     requires { ⌜ rowSize n ≤ length (now row) ⌝ }
     ensures { λ _. ⌜ now (row .exit) ≡ agedRow n (now (row .entry)) ⌝ }
@@ -73,7 +73,7 @@ pub fn age_row(row: &mut [u8], n: usize)
     }
 }
 
-// "If the current row has a subframe other than T"
+// STORE 10.2: whether the current row is marked with another subframe
 fn has_other_subframe(room: &[u8], week: u16, time: u32) -> bool
     requires { ⌜ InRange (now room) ⌝ }
     ensures { λ r. ⌜ r ≡ moves week time (now (room .entry)) ⌝ }
@@ -85,7 +85,7 @@ fn has_other_subframe(room: &[u8], week: u16, time: u32) -> bool
     !rows::is_at(row, week, time)
 }
 
-// "the next row takes a copy of all records, becomes current, and all its ages rise by one"
+// STORE 10.3: the next row filled by the copy, current, and aged
 fn advance(room: &mut [u8])
     requires { ⌜ InRange (now room) ⌝ }
     ensures { λ _. ⌜ now (room .exit) ≡ advanced (now (room .entry)) ⌝ }
@@ -111,7 +111,7 @@ fn advance_for(room: &mut [u8], week: u16, time: u32)
     advance(room);
 }
 
-// "The current row is then marked T"
+// STORE 10.4: the current row marked
 fn mark_current(room: &mut [u8], week: u16, time: u32)
     requires { ⌜ InRange (now room) ⌝ }
     ensures { λ _. ⌜ now (room .exit) ≡ currentMarked week time (now (room .entry)) ⌝ }

@@ -94,7 +94,7 @@ pub fn record_start(timing: bool, i: usize) -> usize
     slot_start(i) + layout::base(timing)
 }
 
-// "after the last comes row 0"
+// STORE 10.3: row 0 is behind the last
 pub fn next_row(d: usize, c: usize) -> usize
     requires { ⌜ c < d ⌝ }
     ensures { λ r. ⌜ r ≡ nextRow d c ⌝ }
@@ -102,7 +102,7 @@ pub fn next_row(d: usize, c: usize) -> usize
     if c + 1 < d { c + 1 } else { 0 }
 }
 
-// "backward through the ring": the row j before row c.
+// STORE 12.1, backward around the ring: the row j before row c.
 pub fn row_back(d: usize, c: usize, j: usize) -> usize
     requires { ⌜ (c < d) × ((j < d) × (d < 256)) ⌝ }
     ensures { λ r. ⌜ r ≡ rowBack d c j ⌝ }
@@ -129,7 +129,7 @@ pub fn is_at(row: &[u8], week: u16, time: u32) -> bool
     numbers::read32(row, TIME_AT) == time
 }
 
-// "marked T": its mark 1, and the week and time of T.
+// A row marked T: its mark 1, and the week and time of T.
 pub fn mark_row(row: &mut [u8], week: u16, time: u32)
     requires { ⌜ headSize ≤ length (now row) ⌝ }
     ensures { λ _. ⌜ now (row .exit) ≡ markedAt week time (now (row .entry)) ⌝ }

@@ -1,1 +1,1 @@
-// A store stays a store: theorems over the definitions of document 01, in proofs/; there is no code here.
+// A store stays a store: theorems over the definitions of docs/STORE.md, in proofs/; there is no code here.

@@ -1,4 +1,4 @@
-// "Not a store", refusal 3 of document 01: whether the bytes of a room are one. Every test stops at its first fault, and of a record
+// STORE 8, refusal 3: whether the bytes of a room are a store. Every test stops at its first fault, and of a record
 // it reads the satellite, the count where there is no satellite, and the last byte. Nearly every slot of a store is passed at one
 // look at both its records: see `is_plain`.
 ghost use mathlib.Core.Path.{_≡_};

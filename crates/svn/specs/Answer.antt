@@ -1,4 +1,4 @@
--- The paper's number and values for each case of an answer of `svn`.
+-- STORE 14.5: the number and the values for each case of an answer of `svn`.
 use mathlib.Core.List.{[], _∷_}
 use Rattle.paper.specs.Number.{Answer, done, refused}
 use Rattle.svn.specs.declared.Satellite.{Satellite}

@@ -1,4 +1,4 @@
-// Satellites of the Galileo system: 1 to 36, written as E and two digits (document 01, "Satellites").
+// Satellites of the Galileo system, and how they are written (STORE 4).
 ghost use mathlib.Core.Path.{_≡_};
 ghost use Rattle.svn.specs.Answer.{satelliteAnswer};
 ghost use Rattle.paper.specs.Satellite.{isSatellite, satelliteOf, lettersOf};

@@ -1,4 +1,4 @@
--- What a candidate that is found or not says of the paper's numbers, and the paper's answer for a tag.
+-- What a candidate that is found or not says of the numbers of STORE 14.2, and the answer for a tag.
 use Prim.Native.Nat.{ℕ}
 use mathlib.Core.Path.{_≡_}
 use mathlib.Core.Bool.{Bool, false, not}
@@ -24,14 +24,14 @@ Placed (At x) allowed known sat kind cop w t room =
 Placed (Refused why) allowed known sat kind cop w t room =
     (later : ℕ) → untilCandidate allowed known sat kind cop w t room later ≡ numberOf why
 
--- the same of the last two tests, "16, 10", for the MACK time whose time less 30 s is w, t
+-- the same of the last two tests, 16 and 10, for the MACK time whose time less 30 s is w, t
 abbrev pub Sought : Candidate → Family → ℕ → ℕ → ℕ → ℕ → List ℕ → Type 0
 Sought (At x) f sat cop w t room = (eqb cop 0 ≡ false) × (candidateAt f sat cop w t room ≡ Here x)
 Sought (Refused why) f sat cop w t room =
     (later : ℕ) → (w' t' : ℕ) → values (thirtyBefore w' t') ≡ w ∷ t ∷ []
     → unless (not (eqb cop 0)) 16 (unless (hasCandidate f sat cop w' t' room) 10 later) ≡ numberOf why
 
--- "for a tag, with how many records took it"
+-- STORE 11.8: beside 0 the total
 abbrev pub taggedAnswer : Tagged → Answer
 taggedAnswer (Taken n) = done (n ∷ [])
 taggedAnswer (NotTaken why) = refused (numberOf why)

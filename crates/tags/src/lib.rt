@@ -1,5 +1,5 @@
-// "What a tag does": where its candidate lies or why there is none, and what an accepted tag leaves. The refusals come in the
-// paper's order.
+// STORE 11: where a tag's candidate lies or why there is none, and what an accepted tag leaves. The refusals come in the
+// order of STORE 14.2.
 ghost use mathlib.Core.Path.{_≡_};
 ghost use Prim.Native.Nat.{_+_, _≤_};
 ghost use lib.ListN.{length};
@@ -17,7 +17,7 @@ use refusals::Refusal;
 use refusals::Reply;
 use svn::Svn;
 
-// "that time less 30 s"
+// STORE 11.2: the MACK time less 30 s
 const ONE_BEFORE: i32 = 0 - SUBFRAME_SECONDS as i32;
 
 // Where the candidate's record starts in the room, or why there is none.
@@ -32,7 +32,7 @@ pub enum Tagged {
     Refused(Refusal),
 }
 
-// "16, 10": the MACK's time less 30 s is known here
+// 16, 10: the MACK's time less 30 s is known here
 fn candidate_before(room: &[u8], sat: u8, timing: bool, cop: u8, week: u16, time: u32) -> Candidate
     requires { ⌜ InRange (now room) ⌝ }
     ensures { λ r. ⌜ Sought r (familyIf timing) sat cop week time (now (room .entry)) ⌝ }
@@ -46,7 +46,7 @@ fn candidate_before(room: &[u8], sat: u8, timing: bool, cop: u8, week: u16, time
     }
 }
 
-// "3, 4, 5, 6, 8, 9, 7, 16, 10": a tag and the candidate test 8 and 9 each in their own way
+// 3, 4, 5, 6, 8, 9, 7, 16, 10: a tag and the candidate test 8 and 9 each in their own way
 pub fn candidate_of(
     room: &[u8],
     svn: Svn,
@@ -91,7 +91,7 @@ pub fn candidate_shown(room: &[u8], svn: Svn, kind: u8, cop: u8, mack: Gst) -> C
     candidate_of(room, svn, kind, cop, mack, allowed, known)
 }
 
-// "given data not 69 (timing 18) bytes, or different from the candidate in its 549 or 141 bits": whether neither
+// STORE 11.4: whether the given data has its length and the candidate's bits
 fn given_agrees(room: &[u8], at: usize, timing: bool, given: &[u8]) -> bool
     requires { ⌜ at + size (familyIf timing) ≤ length (now room) ⌝ }
     ensures { λ r. ⌜ r ≡ givenAgrees (familyIf timing) (now (given .entry)) (part at (size (familyIf timing)) (now (room .entry))) ⌝ }
@@ -102,7 +102,7 @@ fn given_agrees(room: &[u8], at: usize, timing: bool, given: &[u8]) -> bool
     credit::same_bits(given, lookup::data_of(room, at, timing), timing)
 }
 
-// "11, 17, 18, 0": the candidate's record starts at `at`
+// 11, 17, 18, 0: the candidate's record starts at `at`
 pub fn accept(
     room: &mut [u8],
     at: usize,

@@ -34,7 +34,7 @@ decimal x = decimalIn x x
 abbrev pub hexDigit : ℕ → ℕ
 hexDigit d = cond (ltb d 10) (48 + d) (87 + d)
 
--- "lower-case hex": two digits for each byte
+-- lower-case hex: two digits for each byte
 unfoldable pub hexOf : List ℕ → List ℕ
 hexOf [] = []
 hexOf (b ∷ l) = hexDigit (b / 16) ∷ hexDigit (b % 16) ∷ hexOf l

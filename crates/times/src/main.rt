@@ -1,5 +1,5 @@
-// The worked examples of the Rust's comments (gst.rs, svn.rs), the time examples of document 01 and the edges of i32, a line each.
-// A line says what is asked, and then the answer: its value, or the paper's number of the refusal.
+// The worked examples of the Rust's comments (gst.rs, svn.rs), the time examples of STORE 18 and the edges of i32, a line each.
+// A line says what is asked, and then the answer: its value, or the number of the refusal.
 use gst::Apart;
 use gst::Gst;
 use gst::NewTime;
@@ -154,7 +154,7 @@ fn rust() {
     satellite(24);
 }
 
-// The first five examples of document 01.
+// 18.1 to 18.5.
 fn paper() {
     seconds(at(1177, 175767), 2);
     text(b"subframe of (1177, 175767) + 2 s");

@@ -1,4 +1,4 @@
--- "If it held another satellite".
+-- STORE 10.6: whether a record had another satellite.
 use Prim.Native.Nat.{ℕ}
 use mathlib.Core.Bool.{Bool, not, _||_}
 use mathlib.Core.List.{List}

@@ -1,9 +1,9 @@
--- What this crate's answer on the part that a word owns means in the paper's definitions.
+-- What this crate's answer on the part that a word owns means in the definitions of `paper`.
 use Rattle.paper.specs.Word.{Owned, nothing, owns}
 use Rattle.word.specs.declared.Owned as code
 use Rattle.word.specs.declared.Owned.the-variants.{Nothing, Owns}
 
--- what the word owns, in the paper's words
+-- what the word owns, as the definitions have it
 abbrev pub ownedOf : code.Owned → Owned
 ownedOf Nothing = nothing
 ownedOf (Owns to from n age) = owns to from n age

@@ -1,4 +1,4 @@
-// What a word does to one record (document 01, "What a word does").
+// What a word does to one record (STORE 10.6 to 10.8).
 ghost use mathlib.Core.Path.{_≡_};
 ghost use mathlib.Core.Bool.{cond};
 ghost use Prim.Native.Nat.{ℕ, _-_, _≤_, _<_};
@@ -14,7 +14,7 @@ use records::OLDEST;
 use records::SATELLITE_AT;
 use records::Timing;
 
-// "The part of the record that the word owns": so many bits to a bit of the record from a bit of the word, and an age.
+// STORE 5.4, the part that a word owns: so many bits to a bit of the record from a bit of the word, and an age.
 enum Owned {
     Nothing,
     Owns {
@@ -59,7 +59,7 @@ fn owned_ced(kind: u8) -> Owned
     }
 }
 
-// The table's lines for timing, "E1B only".
+// The table's lines for timing, on E1B alone.
 fn owned_timing(kind: u8, band: u8) -> Owned
     ensures { λ r. ⌜ ownedOf r ≡ owned TIMING kind band ⌝ }
 {
@@ -83,7 +83,7 @@ fn clear_count_if(bytes: &mut [u8], cleared: bool)
     numbers::write16(bytes, COUNT_AT, 0);
 }
 
-// "If it held another satellite"
+// STORE 10.6: whether the record had another satellite
 fn holds_another(bytes: &[u8], sat: u8) -> bool
     requires { ⌜ satelliteAt < length (now bytes) ⌝ }
     ensures { λ r. ⌜ r ≡ heldAnother sat (now (bytes .entry)) ⌝ }
@@ -94,7 +94,7 @@ fn holds_another(bytes: &[u8], sat: u8) -> bool
     bytes[SATELLITE_AT] != 0
 }
 
-// "It takes the satellite", and its count becomes 0 if it held another: whether it did.
+// STORE 10.6: it takes the satellite, and its count becomes 0 if it had another: whether it did.
 fn take(bytes: &mut [u8], sat: u8) -> bool
     requires { ⌜ agesAt ≤ length (now bytes) ⌝ }
     ensures { λ r. ⌜ (r ≡ heldAnother sat (now (bytes .entry)))
@@ -126,7 +126,7 @@ fn take_over_timing(bytes: &mut [u8], sat: u8)
     Timing::put_ages(bytes, [OLDEST; Timing::WORDS]);
 }
 
-// "Only the part of the record that the word owns is written": the record's data is lent to the move of bits.
+// STORE 10.7: the record's data is lent to the move of bits.
 fn write_bits(
     bytes: &mut [u8],
     timing: bool,
