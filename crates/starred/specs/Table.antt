@@ -9,7 +9,7 @@ use Rattle.paper.specs.Time.{addSeconds, subframeOf, difference}
 use Rattle.paper.specs.Record.{Family, CED, Timing, size, satellite, count, agesOf, dataOf, withCount}
 use Rattle.paper.specs.Room.{rowAt, recordAt}
 use Rattle.paper.specs.Call.{Call, freshCall, feedCall, tagCall, candidateCall, askCall, resetCall, roomAfter, answerTo, partTo}
-use Rattle.examples.specs.Row.{Row, row, flat, flatDifference, lastAnswer, after, at, satellites, word}
+use Rattle.starred.specs.Row.{Row, row, flat, flatDifference, lastAnswer, after, at, satellites, word}
 
 -- a word at week 1177
 abbrev feed : ℕ → ℕ → ℕ → ℕ → Call

@@ -7,8 +7,8 @@ use Rattle.paper.proofs.StoreFacts.{both-true}
 use Rattle.paper.proofs.Opens.{callsOpen}
 use Rattle.paper.proofs.Same.{list-true}
 use Rattle.paper.specs.Record.{sameList}
-use Rattle.examples.specs.Row.{Row, Every, every, lastAnswer, after, at, satellites, word}
-use Rattle.examples.specs.Table.{table, cedData, five, tag, accepted, later, laterRefused, laterAccepted, firstAgain, times, places, tags, backward, nearMisses}
+use Rattle.starred.specs.Row.{Row, Every, every, lastAnswer, after, at, satellites, word}
+use Rattle.starred.specs.Table.{table, cedData, five, tag, accepted, later, laterRefused, laterAccepted, firstAgain, times, places, tags, backward, nearMisses}
 
 each : (rows : List Row) → every rows ≡ true → Every rows
 unfolding every
