@@ -1,4 +1,4 @@
--- The starred examples as one claim: every row of the table gives what document 01 says. The checker computes the test over the
+-- The starred examples as one claim: every row of the table gives what STORE 18 says. The checker computes the test over the
 -- whole table, and one law turns the test into the rows.
 use mathlib.Core.Path.{_≡_, refl}
 use mathlib.Core.Bool.{true}
@@ -21,6 +21,6 @@ computed : every table ≡ true
 unfolding every table cedData five tag accepted later laterRefused laterAccepted firstAgain times places tags backward nearMisses lastAnswer after at satellites word callsOpen
 computed = refl
 
--- every starred example of document 01, and every near miss, comes out as the paper says
+-- every starred example of STORE 18, and every near miss of 16.6, comes out as it says
 pub examples : Every table
 examples = each table computed

@@ -1,4 +1,4 @@
--- The three keys of document 01, in its order: same satellite, none, greatest age.
+-- The three keys of STORE 10.5, in its order: same satellite, none, greatest age.
 use mathlib.Core.Path.{sym, ap, _∙_}
 use borrow.Author.Needs.{needs}
 use Rattle.paper.specs.Record.{CED, greatest}
