@@ -1,4 +1,4 @@
-//! The archive's exports, a slice as a pointer and a length. tools/outside checks them against crates/ffi.
+//! The archive's exports, a slice as a pointer and a length. `tools/outside` checks them against crates/ffi.
 
 #[repr(C)]
 pub struct Taken {
@@ -43,6 +43,8 @@ pub struct Span {
 }
 
 extern "C" {
+    // the crate's own room_size is a const fn, which the tests hold to this
+    #[allow(dead_code)]
     pub fn dawnstook_room_size(d: u8, n: u8) -> usize;
     pub fn dawnstook_fresh(room: *mut u8, room_len: usize, d: u8, n: u8) -> u8;
     pub fn dawnstook_feed(
