@@ -53,7 +53,8 @@ static void use(uint8_t *room, size_t len, uint8_t *word, uint8_t *given) {
 static uint8_t *fenced(size_t bytes, bool at_end) {
     size_t page = (size_t)sysconf(_SC_PAGESIZE), pages = (bytes + page - 1) / page * page;
     uint8_t *all = mmap(NULL, pages + 2 * page, PROT_NONE, MAP_PRIVATE | MAP_ANONYMOUS, -1, 0);
-    need(all != MAP_FAILED && mprotect(all + page, pages, PROT_READ | PROT_WRITE) == 0, "memory with fences");
+    need(all != MAP_FAILED, "memory with fences");
+    need(pages == 0 || mprotect(all + page, pages, PROT_READ | PROT_WRITE) == 0, "memory between fences");
     return at_end ? all + page + pages - bytes : all + page;
 }
 
