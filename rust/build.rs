@@ -78,6 +78,9 @@ fn of_the_repository() -> PathBuf {
 /// The header that was copied with the archive says its version.
 fn same_version(lib: &Path) {
     let header = lib.join("../include/dawnstook.h");
+    if header.is_file() {
+        println!("cargo:rerun-if-changed={}", header.display());
+    }
     let Ok(text) = fs::read_to_string(&header) else { return };
     let version = text.lines().find_map(|line| line.strip_prefix("#define DAWNSTOOK_VERSION \"")?.strip_suffix('"'));
     let own = of("CARGO_PKG_VERSION");
