@@ -1,6 +1,7 @@
 """Holds the C header and the Rust crate to the code: to the exports of crates/ffi the names of the calls and of each the number, the order
 and the width of its parameters, what it hands back, and the fields of the structs; to crates/refusals the numbers; to the crates that have
-them the limits and sizes; and to each other their names, texts, codes and versions.
+them the limits and sizes; to the definitions of crates/paper the order of refusals in the header's comments; and to each other names, texts,
+codes and versions.
 
 usage: declarations.py      in the repository's top folder
 """
@@ -28,6 +29,12 @@ CONSTANTS = {
     "LEAST_COUNT": ("ask", "LEAST_COUNT"), "MOST_SATELLITES": ("svn", "MOST_SATELLITES"), "WORD_BYTES": ("limits", "WORD_BYTES"),
     "WEEK_SECONDS": ("gst", "WEEK_SECONDS"), "SUBFRAME_SECONDS": ("gst", "SUBFRAME_SECONDS"),
     "MOST_SUBFRAMES": ("gst", "MOST_SUBFRAMES"),
+}
+
+# the definition of crates/paper that has the order of a call's refusals
+ORDERS = {
+    "fresh": "freshNumber", "feed": "feedNumber", "candidate": "candidateNumber", "tag": "tagNumber",
+    "get_ced_and_status": "askNumber", "get_timing_parameters": "askNumber", "reset_authbits": "resetNumber",
 }
 
 # the codes of the header and of the crate, whose names are galileo-osnma's
@@ -185,6 +192,44 @@ def deepest_stack():
     return max(int(n) for n in re.findall(r"\| (\d+) \|$", rows, re.M))
 
 
+def behind(tokens, i):
+    """Where the argument that starts at token i has ended."""
+    depth = 0
+    while True:
+        depth += {"(": 1, ")": -1}.get(tokens[i], 0)
+        i += 1
+        if depth == 0:
+            return i
+
+
+def order_of(name, bodies):
+    """The numbers of a nest of `unless TEST NUMBER LATER`, in the order of their tests."""
+    tokens, order, i = re.findall(r"[()]|[^\s()]+", bodies[name]), [], 0
+    while i < len(tokens):
+        if tokens[i] == "unless":
+            i = behind(tokens, i + 1)
+            order.append(int(tokens[i]))
+        elif tokens[i] in bodies:
+            order += order_of(tokens[i], bodies)
+        i += 1
+    return order
+
+
+def orders_of_definitions():
+    text = re.sub(r"--[^\n]*", "", read("crates/paper/specs/Answer.antt"))
+    bodies = dict(re.findall(r"^((?:until|from)\w+|\w+Number) [^:=\n]*=(.*?)(?=\n\n|\Z)", text, re.S | re.M))
+    return {call: order_of(name, bodies) for call, name in ORDERS.items()}
+
+
+def orders_of_header(text):
+    found = {}
+    for comment, below in re.findall(r"^/\*((?:(?!\*/).)*)\*/\n((?:\w+ dawnstook_\w+\([^;{]*\);\n)+)", text, re.S | re.M):
+        numbers_said = re.search(r"((?:\d+, )*\d+)\. $", comment)
+        for name in re.findall(r"dawnstook_(\w+)\(", below):
+            found[name] = [int(n) for n in numbers_said.group(1).split(", ")] if numbers_said else None
+    return found
+
+
 class Held:
     """Counts what differs, and prints it."""
 
@@ -228,6 +273,14 @@ def numbers(held, header):
     held.done(before, f"header and crate have the {len(code)} numbers of crates/refusals, and one text for each")
 
 
+def orders(held, _):
+    before = held.wrong
+    said, expected = orders_of_header(read(HEADER)), orders_of_definitions()
+    for call in ORDERS:
+        held.same(f"{HEADER}: numbers at the end of the comment on dawnstook_{call}", said.get(call), expected[call])
+    held.done(before, f"the header has the order of refusals of the {len(ORDERS)} calls on a room as crates/paper has it")
+
+
 def codes(held, header):
     before = held.wrong
     store = read(RUST + "store.rs")
@@ -268,7 +321,7 @@ def constants(held, header):
 
 def main():
     held, header = Held(), without_comments(read(HEADER))
-    for part in (calls, numbers, codes, constants):
+    for part in (calls, numbers, orders, codes, constants):
         part(held, header)
     sys.exit(1 if held.wrong else 0)
 
