@@ -1,10 +1,14 @@
-"""Holds the declarations of the C header and of the Rust crate to the exports of crates/ffi: names, and of each the number, the
-order and the width of its parameters, what it hands back, and the fields of the structs.
+"""Holds the C header and the Rust crate to the code: to the exports of crates/ffi the names of the calls and of each the number, the order
+and the width of its parameters, what it hands back, and the fields of the structs; to crates/refusals the numbers; to the crates that have
+them the limits and sizes; to the definitions of crates/paper the order of refusals in the header's comments; and to each other names, texts,
+codes and versions.
 
-usage: declarations.py LIB.RT HEADER.H SYS.RS
+usage: declarations.py      in the repository's top folder
 """
 import re
 import sys
+
+HEADER, SYS, RUST = "include/dawnstook.h", "rust/src/sys.rs", "rust/src/"
 
 # a slice is a pointer and a length
 RATTLE = {"&mut [u8]": ["*mut u8", "usize"], "&[u8]": ["*const u8", "usize"]}
@@ -12,6 +16,38 @@ C = {
     "uint8_t": "u8", "uint16_t": "u16", "uint32_t": "u32", "int32_t": "i32", "size_t": "usize", "bool": "bool",
     "uint8_t *": "*mut u8", "const uint8_t *": "*const u8",
 }
+
+# the code's names of refusals that are others outside, where they could be taken for each other or for an unlisted number
+RENAMED = {"NoTime": "TowTooLarge", "OutOfTime": "TimeArithmetic", "Unknown": "UnknownCode"}
+
+# a constant of the header and of the crate, and the code's: its crate and its name there
+CONSTANTS = {
+    "MOST_ROWS": ("layout", "MOST_ROWS"), "MOST_SLOTS": ("layout", "MOST_SLOTS"), "MOST_ROOM": ("layout", "MOST_ROOM"),
+    "HEADER_BYTES": ("layout", "HEADER"), "ROW_HEAD_BYTES": ("layout", "ROW_HEAD"), "SLOT_BYTES": ("layout", "SLOT"),
+    "CED_BITS": ("records", "Ced::BITS"), "CED_BYTES": ("records", "Ced::BYTES"),
+    "TIMING_BITS": ("records", "Timing::BITS"), "TIMING_BYTES": ("records", "Timing::BYTES"), "MOST_COUNT": ("records", "MOST_COUNT"),
+    "LEAST_COUNT": ("ask", "LEAST_COUNT"), "MOST_SATELLITES": ("svn", "MOST_SATELLITES"), "WORD_BYTES": ("limits", "WORD_BYTES"),
+    "WEEK_SECONDS": ("gst", "WEEK_SECONDS"), "SUBFRAME_SECONDS": ("gst", "SUBFRAME_SECONDS"),
+    "MOST_SUBFRAMES": ("gst", "MOST_SUBFRAMES"),
+}
+
+# the definition of crates/paper that has the order of a call's refusals
+ORDERS = {
+    "fresh": "freshNumber", "feed": "feedNumber", "candidate": "candidateNumber", "tag": "tagNumber",
+    "get_ced_and_status": "askNumber", "get_timing_parameters": "askNumber", "reset_authbits": "resetNumber",
+}
+
+# the codes of the header and of the crate, whose names are galileo-osnma's
+CODES = {
+    "band": ("InavBand", {"E1B": "E1B", "E5B": "E5B"}),
+    "kind": ("Adkd", {"CED": "InavCed", "TIMING": "InavTiming", "SLOW_CED": "SlowMac"}),
+    "status": ("NmaStatus", {"RESERVED": "Reserved", "TEST": "Test", "OPERATIONAL": "Operational", "DONT_USE": "DontUse"}),
+}
+
+
+def read(name):
+    with open(name, encoding="utf-8") as file:
+        return file.read()
 
 
 def without_comments(text):
@@ -21,6 +57,12 @@ def without_comments(text):
 def split(parameters):
     return [p.strip() for p in parameters.split(",") if p.strip() and p.strip() != "void"]
 
+
+def camel(name):
+    return "".join(word.capitalize() for word in name.split("_"))
+
+
+# Calls and structs.
 
 def structs_like_rust(text):
     found = {}
@@ -54,38 +96,234 @@ def c_type(text):
 
 
 def of_header(text):
-    def camel(name):
-        return name[len("dawnstook_"):].capitalize() if name.startswith("dawnstook_") else C.get(name, name)
+    def named(name):
+        return camel(name[len("dawnstook_"):]) if name.startswith("dawnstook_") else C.get(name, name)
 
     calls, structs = {}, {}
     for body, name in re.findall(r"typedef struct \w+ \{(.*?)\} (\w+);", text, re.S):
         fields = [f.strip() for f in body.split(";") if f.strip()]
-        structs[camel(name)] = [(f.split()[-1], c_type(" ".join(f.split()[:-1]))) for f in fields]
-    for result, name, parameters in re.findall(r"^(\w+) (dawnstook_\w+)\((.*?)\);", text, re.S | re.M):
+        structs[named(name)] = [(f.split()[-1], c_type(" ".join(f.split()[:-1]))) for f in fields]
+    for result, name, parameters in re.findall(r"^(\w+) (dawnstook_\w+)\(([^{}]*?)\);", text, re.S | re.M):
         types = [c_type(re.fullmatch(r"(.*?)(\w+)", p, re.S).group(1)) for p in split(parameters)]
-        calls[name] = (types, camel(result))
+        calls[name] = (types, named(result))
     return calls, structs
 
 
-def compare(exports, other, where):
-    wrong = 0
-    for i, what in enumerate(("call", "struct")):
-        for name in sorted(set(exports[i]) | set(other[i])):
-            if exports[i].get(name) != other[i].get(name):
-                print(f"outside: {where}: {what} {name}: {other[i].get(name)}, but the export is {exports[i].get(name)}")
-                wrong += 1
-    if not wrong:
-        print(f"outside: {where} declares the {len(exports[0])} exports and their {len(exports[1])} structs")
-    return wrong
+# Numbers, codes and constants.
+
+def enum_of_header(text, name):
+    body = re.search(r"enum dawnstook_" + name + r" \{(.*?)\}", text, re.S).group(1)
+    return {n: int(v) for n, v in re.findall(r"DAWNSTOOK_(\w+) = (\d+)", body)}
+
+
+def texts_of_header(text):
+    return dict(re.findall(r'case DAWNSTOOK_(\w+): return "\1: (.*)";', text))
+
+
+def refusals_of_rust(text):
+    """Name to number and text, of the macro's table."""
+    return {n: (int(v), t) for n, v, t in re.findall(r'^    (\w+) = (\d+): "(.*)",$', text, re.M)}
+
+
+def value(expression, known):
+    """An expression of C or Rust in sums, differences and products, with the names in known."""
+    expression = re.sub(r"\(size_t\)|\bas \w+|(?<=\d)_(?=\d)", "", expression)
+    expression = expression.replace("DAWNSTOOK_", "").replace("::", ".")
+    names = set(re.findall(r"[A-Za-z_][\w.]*", expression))
+    if not re.fullmatch(r"[\w\s.()+*/,-]+", expression) or not names <= set(known):
+        return None
+    for name in sorted(names, key=len, reverse=True):
+        expression = re.sub(r"(?<![\w.])" + re.escape(name) + r"(?![\w.])", f"known[{name!r}]", expression)
+    return eval(expression.replace("/", "//"), {"known": known})  # its characters and names are tested above
+
+
+def solve(expressions, known):
+    """The values of named expressions, in whichever order they rest on each other."""
+    known = dict(known)
+    left = dict(expressions)
+    while left:
+        found = {n: v for n, v in ((n, value(e, known)) for n, e in left.items()) if v is not None}
+        if not found:
+            break
+        known.update(found)
+        left = {n: e for n, e in left.items() if n not in found}
+    return known
+
+
+def constants_of_code(crates):
+    expressions = {}
+    for crate in crates:
+        kind = ""
+        for line in without_comments(read(f"crates/{crate}/src/lib.rt")).splitlines():
+            opened = re.match(r"impl (\w+) \{", line)
+            kind = opened.group(1) + "." if opened else "" if line.startswith("}") else kind
+            constant = re.match(r"\s*(?:pub )?const (\w+): \w+ = (.*);", line)
+            if constant:
+                expressions[kind + constant.group(1)] = constant.group(2)
+    return solve(expressions, {})
+
+
+def constants_of_header(text):
+    size = re.search(r"#define DAWNSTOOK_ROOM_SIZE\(d, n\) \\\n(.*)", text).group(1)
+    found = dict(re.findall(r"^#define DAWNSTOOK_([A-Z_]+) +([^\"\n{]+)$", text, re.M))
+    return constants_with(found, size)
+
+
+def constants_of_rust(text):
+    size = re.search(r"pub const fn room_size.*?return 0;\s*\}\s*(.*?)\n\}", text, re.S).group(1)
+    return constants_with(dict(re.findall(r"^pub const (\w+): \w+ = (.*);", text, re.M)), size)
+
+
+def constants_with(expressions, size):
+    plain = solve({n: e for n, e in expressions.items() if "(" not in e}, {})
+    known = dict(plain, ROOM_SIZE=lambda d, n: value(size, dict(plain, d=d, n=n)))
+    known["room_size"] = known["ROOM_SIZE"]
+    known = solve({n: e for n, e in expressions.items() if "(" in e}, known)
+    return {n: known.get(n) for n in expressions}
+
+
+def tag_lengths(text, pattern):
+    return [int(n) for n in re.search(pattern, text).group(1).replace(" ", "").split(",")]
+
+
+def deepest_stack():
+    """The largest number of the table of docs/SPEED.md."""
+    rows = re.search(r"\| stack of a call.*?(?=\| code and constants)", read("docs/SPEED.md"), re.S).group(0)
+    return max(int(n) for n in re.findall(r"\| (\d+) \|$", rows, re.M))
+
+
+def behind(tokens, i):
+    """Where the argument that starts at token i has ended."""
+    depth = 0
+    while True:
+        depth += {"(": 1, ")": -1}.get(tokens[i], 0)
+        i += 1
+        if depth == 0:
+            return i
+
+
+def order_of(name, bodies):
+    """The numbers of a nest of `unless TEST NUMBER LATER`, in the order of their tests."""
+    tokens, order, i = re.findall(r"[()]|[^\s()]+", bodies[name]), [], 0
+    while i < len(tokens):
+        if tokens[i] == "unless":
+            i = behind(tokens, i + 1)
+            order.append(int(tokens[i]))
+        elif tokens[i] in bodies:
+            order += order_of(tokens[i], bodies)
+        i += 1
+    return order
+
+
+def orders_of_definitions():
+    text = re.sub(r"--[^\n]*", "", read("crates/paper/specs/Answer.antt"))
+    bodies = dict(re.findall(r"^((?:until|from)\w+|\w+Number) [^:=\n]*=(.*?)(?=\n\n|\Z)", text, re.S | re.M))
+    return {call: order_of(name, bodies) for call, name in ORDERS.items()}
+
+
+def orders_of_header(text):
+    found = {}
+    for comment, below in re.findall(r"^/\*((?:(?!\*/).)*)\*/\n((?:\w+ dawnstook_\w+\([^;{]*\);\n)+)", text, re.S | re.M):
+        numbers_said = re.search(r"((?:\d+, )*\d+)\. $", comment)
+        for name in re.findall(r"dawnstook_(\w+)\(", below):
+            found[name] = [int(n) for n in numbers_said.group(1).split(", ")] if numbers_said else None
+    return found
+
+
+class Held:
+    """Counts what differs, and prints it."""
+
+    def __init__(self):
+        self.wrong = 0
+
+    def same(self, what, found, expected):
+        if found != expected:
+            print(f"outside: {what}: {found}, but it is to be {expected}")
+            self.wrong += 1
+
+    def done(self, before, text):
+        if self.wrong == before:
+            print("outside: " + text)
+
+
+def calls(held, header):
+    exports = of_rattle(without_comments(read("crates/ffi/src/lib.rt")))
+    if not exports[0]:
+        sys.exit("outside: no exports found in crates/ffi")
+    for where, other in ((HEADER, of_header(header)), (SYS, of_rust(without_comments(read(SYS))))):
+        before = held.wrong
+        for i, what in enumerate(("call", "struct")):
+            for name in sorted(set(exports[i]) | set(other[i])):
+                held.same(f"{where}: {what} {name}", other[i].get(name), exports[i].get(name))
+        held.done(before, f"{where} declares the {len(exports[0])} exports and their {len(exports[1])} structs")
+
+
+def numbers(held, header):
+    before = held.wrong
+    code = {RENAMED.get(n, n): int(v) for n, v in re.findall(r"Refusal::(\w+) => (\d+),", read("crates/refusals/src/lib.rt"))}
+    of_c, texts = enum_of_header(header, "number"), texts_of_header(header)
+    of_rust_table = refusals_of_rust(read(RUST + "refusal.rs"))
+    if len(code) < 2:
+        sys.exit("outside: no numbers found in crates/refusals")
+    held.same(f"{HEADER}: numbers", {camel(n): v for n, v in of_c.items()}, dict(Done=0, **code))
+    held.same(f"{RUST}refusal.rs: numbers", {n: v for n, (v, _) in of_rust_table.items()}, code)
+    held.same(f"{HEADER}: numbers that have a text", sorted(texts), sorted(of_c))
+    held.same(f"{RUST}refusal.rs: texts", {n: t for n, (_, t) in of_rust_table.items()},
+              {camel(n): t for n, t in texts.items() if n != "DONE"})
+    held.done(before, f"header and crate have the {len(code)} numbers of crates/refusals, and one text for each")
+
+
+def orders(held, _):
+    before = held.wrong
+    said, expected = orders_of_header(read(HEADER)), orders_of_definitions()
+    for call in ORDERS:
+        held.same(f"{HEADER}: numbers at the end of the comment on dawnstook_{call}", said.get(call), expected[call])
+    held.done(before, f"the header has the order of refusals of the {len(ORDERS)} calls on a room as crates/paper has it")
+
+
+def codes(held, header):
+    before = held.wrong
+    store = read(RUST + "store.rs")
+    for name, (rust_name, names) in CODES.items():
+        of_c = enum_of_header(header, name)
+        body = re.search(r"^    " + rust_name + r" \{(.*?)^    \}", store, re.S | re.M).group(1)
+        in_rust = {n: int(v) for n, v in re.findall(r"^ +(\w+) = (\d+),$", body, re.M)}
+        held.same(f"{RUST}store.rs: {rust_name}", in_rust, {names.get(n): v for n, v in of_c.items()})
+    kinds = constants_of_code(["limits"])
+    held.same(f"{HEADER}: kinds", enum_of_header(header, "kind"), {n: kinds.get(n + "_KIND") for n in CODES["kind"][1]})
+    held.done(before, "header and crate have the same codes, the kinds those of crates/limits")
+
+
+def constants(held, header):
+    before = held.wrong
+    code = constants_of_code(["records", "layout", "limits", "svn", "gst", "ask"])
+    expected = {n: code.get(at.replace("::", ".")) for n, (_, at) in CONSTANTS.items()}
+    for name, number in expected.items():
+        if number is None:
+            sys.exit("outside: crates/{}: no constant {}".format(*CONSTANTS[name]))
+    limits = without_comments(read("crates/limits/src/lib.rt"))
+    expected["MOST_COP"] = int(re.search(r"\bcop <= (\d+)", limits).group(1))
+    expected["STACK_BYTES"] = deepest_stack()
+    of_c, rust = constants_of_header(header), without_comments(read(RUST + "limits.rs"))
+    held.same(f"{HEADER}: constants", {n: v for n, v in of_c.items() if not n.startswith("VERSION_")}, expected)
+    held.same(f"{RUST}limits.rs: constants", constants_of_rust(rust), expected)
+    lengths = [int(n) for n in re.findall(r"\bbits == (\d+)", limits)]
+    held.same(f"{HEADER}: lengths of a tag", tag_lengths(header, r"#define DAWNSTOOK_TAG_BITS \{(.*)\}"), lengths)
+    held.same(f"{RUST}limits.rs: lengths of a tag", tag_lengths(rust, r"TAG_BITS: \[u8; \d+\] = \[(.*)\];"), lengths)
+    held.done(before, f"header and crate have the {len(expected)} limits and sizes and the {len(lengths)} lengths of a tag of the code")
+    before = held.wrong
+    version = re.search(r'^version = "(.*)"$', read("rust/Cargo.toml"), re.M).group(1)
+    held.same(f"{HEADER}: version", re.search(r'#define DAWNSTOOK_VERSION "(.*)"', header).group(1), version)
+    held.same(f"{HEADER}: version's parts", ".".join(str(of_c[f"VERSION_{p}"]) for p in ("MAJOR", "MINOR", "PATCH")), version)
+    held.same(f"{HEADER}: version at its head", re.match(r"/\* Dawnstook (\S+):", read(HEADER)).group(1), version)
+    held.done(before, f"header and crate are of version {version}")
 
 
 def main():
-    texts = [without_comments(open(name, encoding="utf-8").read()) for name in sys.argv[1:4]]
-    exports = of_rattle(texts[0])
-    if not exports[0]:
-        sys.exit("outside: no exports found in " + sys.argv[1])
-    wrong = compare(exports, of_header(texts[1]), sys.argv[2]) + compare(exports, of_rust(texts[2]), sys.argv[3])
-    sys.exit(1 if wrong else 0)
+    held, header = Held(), without_comments(read(HEADER))
+    for part in (calls, numbers, orders, codes, constants):
+        part(held, header)
+    sys.exit(1 if held.wrong else 0)
 
 
 main()

@@ -1,4 +1,4 @@
-//! The archive's exports, a slice as a pointer and a length. tools/outside checks them against crates/ffi.
+//! The archive's exports, a slice as a pointer and a length. `tools/outside` checks them against crates/ffi.
 
 #[repr(C)]
 pub struct Taken {
@@ -43,15 +43,25 @@ pub struct Span {
 }
 
 extern "C" {
+    // the crate's own room_size is a const fn, which the tests hold to this
+    #[allow(dead_code)]
     pub fn dawnstook_room_size(d: u8, n: u8) -> usize;
     pub fn dawnstook_fresh(room: *mut u8, room_len: usize, d: u8, n: u8) -> u8;
-    pub fn dawnstook_feed(
-        room: *mut u8, room_len: usize, word: *const u8, word_len: usize, sat: u8, week: u16, time: u32, band: u8,
-    ) -> u8;
+    pub fn dawnstook_feed(room: *mut u8, room_len: usize, word: *const u8, word_len: usize, sat: u8, week: u16, time: u32, band: u8) -> u8;
     pub fn dawnstook_candidate(room: *const u8, room_len: usize, sat: u8, kind: u8, cop: u8, week: u16, time: u32) -> Shown;
     pub fn dawnstook_tag(
-        room: *mut u8, room_len: usize, sat: u8, kind: u8, cop: u8, bits: u8, status: u8, week: u16, time: u32,
-        given: *const u8, given_len: usize, verdict: bool,
+        room: *mut u8,
+        room_len: usize,
+        sat: u8,
+        kind: u8,
+        cop: u8,
+        bits: u8,
+        status: u8,
+        week: u16,
+        time: u32,
+        given: *const u8,
+        given_len: usize,
+        verdict: bool,
     ) -> Taken;
     pub fn dawnstook_get_ced_and_status(room: *const u8, room_len: usize, sat: u8) -> Told;
     pub fn dawnstook_get_timing_parameters(room: *const u8, room_len: usize, sat: u8) -> Told;

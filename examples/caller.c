@@ -1,0 +1,228 @@
+/* What the header says of the calls and asks of the caller, tried: NULL with length 0, no alignment, no byte outside of a range, sizes,
+ * texts, every number, the stack. For x86-64 on a system with mmap. */
+#define _DEFAULT_SOURCE
+#include <stdio.h>
+#include <stdlib.h>
+#include <string.h>
+#include <sys/mman.h>
+#include <unistd.h>
+#include "dawnstook.h"
+
+enum { D = 2, N = 3, SAT = 11, WEEK = 1177, START = 175740, MACK = START + DAWNSTOOK_SUBFRAME_SECONDS };
+#define SIZE DAWNSTOOK_ROOM_SIZE(D, N)
+
+static void need(bool truth, const char *what) {
+    if (truth) return;
+    printf("not so: %s\n", what);
+    exit(1);
+}
+
+/* The words of one satellite, at a place that the caller chooses. */
+static void words(uint8_t *room, size_t len, uint8_t *word) {
+    for (uint8_t type = 1; type <= 10; type++) {
+        memset(word, type, DAWNSTOOK_WORD_BYTES);
+        word[0] = (uint8_t)(type << 2);
+        need(dawnstook_feed(room, len, word, DAWNSTOOK_WORD_BYTES, SAT, WEEK, START, DAWNSTOOK_E1B) == DAWNSTOOK_DONE, "a word is taken");
+    }
+}
+
+/* A store through all its calls, with the data given at a place that the caller chooses. */
+static void use(uint8_t *room, size_t len, uint8_t *word, uint8_t *given) {
+    need(dawnstook_fresh(room, len, D, N) == DAWNSTOOK_DONE, "a fresh store");
+    words(room, len, word);
+    static const uint8_t kinds[] = { DAWNSTOOK_CED, DAWNSTOOK_TIMING, DAWNSTOOK_SLOW_CED };
+    static const uint8_t lengths[] = DAWNSTOOK_TAG_BITS;
+    for (size_t k = 0; k < sizeof kinds; k++) {
+        dawnstook_shown seen = dawnstook_candidate(room, len, SAT, kinds[k], 1, WEEK, MACK);
+        need(seen.number == DAWNSTOOK_DONE && seen.bytes <= DAWNSTOOK_CED_BYTES, "a candidate");
+        /* the data stands at the end of the place, so that its last byte is the last that may be read */
+        uint8_t *data = given + DAWNSTOOK_CED_BYTES - seen.bytes;
+        memcpy(data, room + seen.offset, seen.bytes);
+        for (size_t i = 0; i < sizeof lengths; i++) {
+            dawnstook_taken taken = dawnstook_tag(room, len, SAT, kinds[k], 1, lengths[i], DAWNSTOOK_OPERATIONAL, WEEK, MACK, data,
+                                                  seen.bytes, true);
+            need(taken.number == DAWNSTOOK_DONE && taken.records == 1, "a tag is taken");
+        }
+    }
+    dawnstook_told ced = dawnstook_get_ced_and_status(room, len, SAT), timing = dawnstook_get_timing_parameters(room, len, SAT);
+    need(ced.number == DAWNSTOOK_DONE && ced.authbits == 2 * 144 && ced.bytes == DAWNSTOOK_CED_BYTES, "asking CED");
+    need(timing.number == DAWNSTOOK_DONE && timing.authbits == 144 && timing.bytes == DAWNSTOOK_TIMING_BYTES, "asking timing");
+}
+
+/* A range of memory with no byte before it, or none behind it, that may be touched. */
+static uint8_t *fenced(size_t bytes, bool at_end) {
+    size_t page = (size_t)sysconf(_SC_PAGESIZE), pages = (bytes + page - 1) / page * page;
+    uint8_t *all = mmap(NULL, pages + 2 * page, PROT_NONE, MAP_PRIVATE | MAP_ANONYMOUS, -1, 0);
+    need(all != MAP_FAILED, "memory with fences");
+    need(pages == 0 || mprotect(all + page, pages, PROT_READ | PROT_WRITE) == 0, "memory between fences");
+    return at_end ? all + page + pages - bytes : all + page;
+}
+
+static void ranges(void) {
+    static uint8_t first[SIZE], room[SIZE + 16], word[DAWNSTOOK_WORD_BYTES + 16], given[DAWNSTOOK_CED_BYTES + 16];
+    use(first, sizeof first, word, given);
+    for (size_t i = 0; i < 16; i++) {
+        use(room + i, SIZE, word + (i * 3) % 16, given + (i * 7) % 16);
+        need(memcmp(room + i, first, SIZE) == 0, "the same room at any place");
+    }
+    puts("no alignment: the same room at 16 places");
+    for (int at_end = 0; at_end < 2; at_end++) {
+        uint8_t *fence = fenced(SIZE, at_end);
+        use(fence, SIZE, fenced(DAWNSTOOK_WORD_BYTES, at_end), fenced(DAWNSTOOK_CED_BYTES, at_end));
+        need(memcmp(fence, first, SIZE) == 0, "the same room between fences");
+        need(dawnstook_reset_authbits(fence, SIZE) == DAWNSTOOK_DONE, "a reset");
+        for (size_t len = 0; len < SIZE; len += len < 16 ? 1 : 97) {
+            uint8_t *part = fenced(len, at_end);
+            memcpy(part, first, len);
+            need(dawnstook_reset_authbits(part, len) == DAWNSTOOK_NOT_A_STORE, "a part of a store is none");
+            need(dawnstook_fresh(part, len, D, N) == DAWNSTOOK_TOO_SHORT, "a part is too short");
+        }
+    }
+    puts("no byte outside of a range is touched: room, word and data between fences");
+    memset(room, 7, sizeof room);
+    need(dawnstook_fresh(room, sizeof room, D, N) == DAWNSTOOK_DONE, "a fresh store in a longer room");
+    for (size_t i = SIZE; i < sizeof room; i++) need(room[i] == 7, "bytes past the size stay");
+    puts("bytes past the size stay");
+}
+
+/* Whether all but the number is 0. */
+static bool bare_shown(dawnstook_shown s) { return s.offset == 0 && s.bytes == 0; }
+static bool bare_told(dawnstook_told t) { return t.authbits == 0 && t.week == 0 && t.time == 0 && t.offset == 0 && t.bytes == 0; }
+
+static void nothing(void) {
+    static uint8_t room[SIZE], word[DAWNSTOOK_WORD_BYTES];
+    dawnstook_shown seen = dawnstook_candidate(NULL, 0, SAT, DAWNSTOOK_CED, 1, WEEK, MACK);
+    dawnstook_told ced = dawnstook_get_ced_and_status(NULL, 0, SAT), timing = dawnstook_get_timing_parameters(NULL, 0, SAT);
+    dawnstook_taken taken = dawnstook_tag(NULL, 0, SAT, DAWNSTOOK_CED, 1, 40, DAWNSTOOK_OPERATIONAL, WEEK, MACK, NULL, 0, true);
+    need(bare_shown(seen) && bare_told(ced) && bare_told(timing) && taken.records == 0, "a refusal carries no data");
+    printf("NULL as a room of 0 bytes: fresh %d and %d, feed %d and %d, candidate %d, tag %d, asking %d and %d, reset %d\n",
+           dawnstook_fresh(NULL, 0, D, N), dawnstook_fresh(NULL, 0, 0, 0),
+           dawnstook_feed(NULL, 0, word, sizeof word, SAT, WEEK, START, DAWNSTOOK_E1B),
+           dawnstook_feed(NULL, 0, NULL, 0, SAT, WEEK, START, DAWNSTOOK_E1B), seen.number, taken.number, ced.number, timing.number,
+           dawnstook_reset_authbits(NULL, 0));
+    need(dawnstook_fresh(room, sizeof room, D, N) == DAWNSTOOK_DONE, "a fresh store");
+    words(room, sizeof room, word);
+    printf("NULL as a word of 0 bytes: %d\n", dawnstook_feed(room, sizeof room, NULL, 0, SAT, WEEK, START, DAWNSTOOK_E1B));
+    for (int timing_tag = 0; timing_tag < 2; timing_tag++) {
+        taken = dawnstook_tag(room, sizeof room, SAT, timing_tag ? DAWNSTOOK_TIMING : DAWNSTOOK_CED, 1, 40, DAWNSTOOK_OPERATIONAL, WEEK,
+                              MACK, NULL, 0, true);
+        printf("NULL as data of 0 bytes given with a %s tag: %d\n", timing_tag ? "timing" : "CED", taken.number);
+    }
+}
+
+static void constants(void) {
+    for (unsigned d = 0; d < 256; d++)
+        for (unsigned n = 0; n < 256; n++) {
+            bool allowed = d >= 1 && d <= DAWNSTOOK_MOST_ROWS && n >= 1 && n <= DAWNSTOOK_MOST_SLOTS;
+            need(dawnstook_room_size((uint8_t)d, (uint8_t)n) == (allowed ? DAWNSTOOK_ROOM_SIZE(d, n) : 0), "the macro is the call");
+        }
+    printf("version %s is %d.%d.%d; the largest room is %zu bytes\n", DAWNSTOOK_VERSION, DAWNSTOOK_VERSION_MAJOR,
+           DAWNSTOOK_VERSION_MINOR, DAWNSTOOK_VERSION_PATCH, DAWNSTOOK_MOST_ROOM);
+    const char *unlisted = dawnstook_text(255);
+    for (int number = 0; number < 256; number++)
+        if (strcmp(dawnstook_text((uint8_t)number), unlisted) != 0) printf("%d %s\n", number, dawnstook_text((uint8_t)number));
+    printf("others %s\n", unlisted);
+}
+
+/* Every number that a call may answer, once. */
+static void numbers(void) {
+    static uint8_t room[SIZE], before[SIZE], word[DAWNSTOOK_WORD_BYTES], given[DAWNSTOOK_CED_BYTES];
+    const uint8_t op = DAWNSTOOK_OPERATIONAL;
+    need(dawnstook_fresh(room, sizeof room, D, N) == DAWNSTOOK_DONE, "a fresh store");
+    words(room, sizeof room, word);
+    memcpy(given, room + dawnstook_candidate(room, SIZE, SAT, DAWNSTOOK_CED, 1, WEEK, MACK).offset, sizeof given);
+    memcpy(before, room, SIZE);
+    printf("numbers: %d", dawnstook_fresh(room, SIZE, DAWNSTOOK_MOST_ROWS + 1, N));
+    printf(" %d", dawnstook_fresh(room, SIZE - 1, D, N));
+    printf(" %d", dawnstook_reset_authbits(room, SIZE - 1));
+    printf(" %d", dawnstook_feed(room, SIZE, word, sizeof word, DAWNSTOOK_MOST_SATELLITES + 1, WEEK, START, DAWNSTOOK_E1B));
+    printf(" %d", dawnstook_feed(room, SIZE, word, sizeof word, SAT, WEEK, DAWNSTOOK_WEEK_SECONDS, DAWNSTOOK_E1B));
+    printf(" %d", dawnstook_candidate(room, SIZE, SAT, DAWNSTOOK_CED, 1, WEEK, MACK + 1).number);
+    printf(" %d", dawnstook_add_subframes(WEEK, START, DAWNSTOOK_MOST_SUBFRAMES + 1).number);
+    printf(" %d", dawnstook_candidate(room, SIZE, SAT, DAWNSTOOK_CED, DAWNSTOOK_MOST_COP + 1, WEEK, MACK).number);
+    printf(" %d", dawnstook_feed(room, SIZE, word, sizeof word, SAT, WEEK, START, DAWNSTOOK_E5B + 1));
+    printf(" %d", dawnstook_candidate(room, SIZE, SAT + 1, DAWNSTOOK_CED, 1, WEEK, MACK).number);
+    given[0] ^= 1;
+    printf(" %d", dawnstook_tag(room, SIZE, SAT, DAWNSTOOK_CED, 1, 40, op, WEEK, MACK, given, sizeof given, true).number);
+    given[0] ^= 1;
+    printf(" %d", dawnstook_get_ced_and_status(room, SIZE, SAT).number);
+    printf(" %d", dawnstook_tag(room, SIZE, SAT, DAWNSTOOK_CED, 0, 40, op, WEEK, MACK, given, sizeof given, true).number);
+    printf(" %d", dawnstook_tag(room, SIZE, SAT, DAWNSTOOK_CED, 1, 40, op, WEEK, MACK, given, sizeof given, false).number);
+    printf(" %d\n", dawnstook_tag(room, SIZE, SAT, DAWNSTOOK_CED, 1, 40, DAWNSTOOK_DONT_USE, WEEK, MACK, given, sizeof given, true).number);
+    need(memcmp(room, before, SIZE) == 0, "a refusal changes no byte");
+    puts("a refusal changes no byte");
+}
+
+/* A body run on a stack of its own, painted before; what is painted no more was needed. */
+static uint8_t stack[1 << 14], stack_room[DAWNSTOOK_ROOM_SIZE(DAWNSTOOK_MOST_ROWS, DAWNSTOOK_MOST_SLOTS)];
+static uint8_t stack_word[DAWNSTOOK_WORD_BYTES], stack_given[DAWNSTOOK_CED_BYTES];
+static uint32_t stack_time = START;
+static uint8_t stack_number;
+static size_t stack_most;
+static size_t needed(void (*body)(void)) {
+    uint8_t *top = stack + sizeof stack - (uintptr_t)(stack + sizeof stack) % 16;
+    size_t i = 0;
+    memset(stack, 0xa5, sizeof stack);
+    __asm__ volatile("movq %%rsp, %%rbx\n\tmovq %0, %%rsp\n\tcallq *%1\n\tmovq %%rbx, %%rsp"
+                     : "+&r"(top), "+&r"(body)
+                     :
+                     : "rax", "rbx", "rcx", "rdx", "rsi", "rdi", "r8", "r9", "r10", "r11", "memory", "cc", "xmm0", "xmm1", "xmm2", "xmm3",
+                       "xmm4", "xmm5", "xmm6", "xmm7", "xmm8", "xmm9", "xmm10", "xmm11", "xmm12", "xmm13", "xmm14", "xmm15");
+    while (i < sizeof stack && stack[i] == 0xa5) i++;
+    return sizeof stack - i;
+}
+static void on_nothing(void) {}
+static void on_fresh(void) { stack_number = dawnstook_fresh(stack_room, sizeof stack_room, DAWNSTOOK_MOST_ROWS, DAWNSTOOK_MOST_SLOTS); }
+static void on_feed(void) {
+    stack_number = dawnstook_feed(stack_room, sizeof stack_room, stack_word, sizeof stack_word, SAT, WEEK, stack_time, DAWNSTOOK_E1B);
+}
+static void on_candidate(void) {
+    stack_number = dawnstook_candidate(stack_room, sizeof stack_room, SAT, DAWNSTOOK_CED, 1, WEEK, stack_time + 30).number;
+}
+static void on_tag(void) {
+    stack_number = dawnstook_tag(stack_room, sizeof stack_room, SAT, DAWNSTOOK_CED, 1, 40, DAWNSTOOK_OPERATIONAL, WEEK, stack_time + 30,
+                                 stack_given, sizeof stack_given, true).number;
+}
+static void on_ced(void) { stack_number = dawnstook_get_ced_and_status(stack_room, sizeof stack_room, SAT).number; }
+static void on_timing(void) { stack_number = dawnstook_get_timing_parameters(stack_room, sizeof stack_room, SAT).number; }
+static void on_reset(void) { stack_number = dawnstook_reset_authbits(stack_room, sizeof stack_room); }
+static void on_times(void) {
+    stack_number = dawnstook_add_seconds(WEEK, START, -1).number | dawnstook_add_subframes(WEEK, START, -1).number
+        | dawnstook_gst_subframe(WEEK, START).number | dawnstook_is_subframe(WEEK, START).number
+        | dawnstook_subframes_difference(WEEK, START, WEEK, 0).number;
+}
+static void within(void (*body)(void), uint8_t number, const char *what) {
+    size_t bytes = needed(body) - needed(on_nothing); /* the call's arguments and result, its return address and all below */
+    need(stack_number == number, what);
+    if (bytes > stack_most) stack_most = bytes;
+}
+static void stacks(void) {
+    within(on_fresh, DAWNSTOOK_DONE, "fresh");
+    for (int row = 0; row < 2 * DAWNSTOOK_MOST_ROWS; row++, stack_time += DAWNSTOOK_SUBFRAME_SECONDS)
+        for (uint8_t type = 0; type < 64; type++) {
+            memset(stack_word, 0x5a, sizeof stack_word);
+            stack_word[0] = (uint8_t)(type << 2);
+            within(on_feed, DAWNSTOOK_DONE, "feed");
+        }
+    stack_time -= DAWNSTOOK_SUBFRAME_SECONDS;
+    within(on_candidate, DAWNSTOOK_DONE, "candidate");
+    dawnstook_shown seen = dawnstook_candidate(stack_room, sizeof stack_room, SAT, DAWNSTOOK_CED, 1, WEEK, stack_time + 30);
+    memcpy(stack_given, stack_room + seen.offset, sizeof stack_given);
+    within(on_tag, DAWNSTOOK_DONE, "tag");
+    within(on_ced, DAWNSTOOK_DONE, "asking CED");
+    within(on_timing, DAWNSTOOK_NOT_ENOUGH, "asking timing");
+    within(on_reset, DAWNSTOOK_DONE, "reset");
+    within(on_times, DAWNSTOOK_DONE, "times");
+    fprintf(stderr, "caller: the deepest call needed %zu bytes of stack\n", stack_most);
+    need(stack_most <= DAWNSTOOK_STACK_BYTES, "the stack is enough");
+    printf("no call needed more than %d bytes of stack\n", DAWNSTOOK_STACK_BYTES);
+}
+
+int main(void) {
+    nothing();
+    ranges();
+    constants();
+    numbers();
+    stacks();
+    return 0;
+}

@@ -1,0 +1,121 @@
+//! Every refusal once, through the crate's own face, and the room as it was after each.
+use dawnstook::*;
+use std::collections::BTreeSet;
+
+const ROOM: usize = room_size(2, 2);
+
+fn at(week: u16, time: u32) -> Gst {
+    Gst::try_new(week, time).unwrap()
+}
+
+/// A store with all the words of E01, of the subframe that starts at week 1177, 175740.
+fn filled() -> [u8; ROOM] {
+    let mut room = [0; ROOM];
+    let mut store = Store::new(&mut room, 2, 2).unwrap();
+    for kind in 1..=5 {
+        let mut word = [kind; WORD_BYTES];
+        word[0] = kind << 2;
+        store.feed(&word, Svn::new(1).unwrap(), at(1177, 175_740), InavBand::E1B).unwrap();
+    }
+    room
+}
+
+fn tag() -> Tag {
+    Tag { svn: Svn::new(1).unwrap(), adkd: Adkd::InavCed, cop: 1, mack: at(1177, 175_770) }
+}
+
+/// What a call on a filled store refuses with, and that it left the room as it was.
+fn refused<T: std::fmt::Debug>(call: impl FnOnce(&mut Store) -> Result<T, Refusal>) -> Refusal {
+    let mut room = filled();
+    let why = call(&mut Store::resume(&mut room)).unwrap_err();
+    assert_eq!(room, filled(), "{why:?}");
+    why
+}
+
+fn given() -> Vec<u8> {
+    let mut room = filled();
+    Store::resume(&mut room).candidate(tag()).unwrap().to_vec()
+}
+
+#[test]
+fn every_refusal_once() {
+    let operational = NmaStatus::Operational;
+    let mut blank = [7; ROOM];
+    let seen = [
+        (1, Store::new(&mut blank, 0, 1).unwrap_err()),
+        (1, Store::new(&mut blank, MOST_ROWS + 1, 1).unwrap_err()),
+        (1, Store::new(&mut blank, 1, MOST_SLOTS + 1).unwrap_err()),
+        (2, Store::new(&mut blank[1..], 2, 2).unwrap_err()),
+        (2, Store::new(&mut [], 1, 1).unwrap_err()),
+        (3, Store::resume(&mut blank).reset_authbits().unwrap_err()),
+        (3, Store::resume(&mut []).get_ced_and_status(tag().svn).unwrap_err()),
+        (4, Svn::try_from(0).unwrap_err()),
+        (4, Svn::try_from(MOST_SATELLITES + 1).unwrap_err()),
+        (4, Svn::try_from(-1).unwrap_err()),
+        (4, Svn::try_from(257).unwrap_err()),
+        (5, Tow::try_from(WEEK_SECONDS).unwrap_err()),
+        (5, Gst::try_new(0, u32::MAX).unwrap_err()),
+        (6, refused(|store| store.candidate(Tag { mack: at(1177, 175_771), ..tag() }).map(|_| ()))),
+        (7, at(0, 0).add_seconds(-1).unwrap_err()),
+        (7, at(65_535, 604_799).add_seconds(1).unwrap_err()),
+        (7, at(5, 0).add_subframes(MOST_SUBFRAMES + 1).unwrap_err()),
+        (7, refused(|store| store.candidate(Tag { mack: at(0, 0), ..tag() }).map(|_| ()))),
+        (8, refused(|store| store.candidate(Tag { cop: MOST_COP + 1, ..tag() }).map(|_| ()))),
+        (8, refused(|store| store.tag(tag(), 21, operational, &given(), true))),
+        (9, InavBand::try_from(2).unwrap_err()),
+        (9, Adkd::try_from(1).unwrap_err()),
+        (9, NmaStatus::try_from(4).unwrap_err()),
+        (10, refused(|store| store.candidate(Tag { mack: at(1177, 175_800), ..tag() }).map(|_| ()))),
+        (11, refused(|store| store.tag(tag(), 40, operational, &[0; CED_BYTES], true))),
+        (11, refused(|store| store.tag(tag(), 40, operational, &[], true))),
+        (12, refused(|store| store.get_ced_and_status(tag().svn).map(|_| ()))),
+        (12, refused(|store| store.get_timing_parameters(tag().svn).map(|_| ()))),
+        (16, refused(|store| store.tag(Tag { cop: 0, ..tag() }, 40, operational, &given(), true))),
+        (17, refused(|store| store.tag(tag(), 40, operational, &given(), false))),
+        (18, refused(|store| store.tag(tag(), 40, NmaStatus::Reserved, &given(), true))),
+        (18, refused(|store| store.tag(tag(), 40, NmaStatus::DontUse, &given(), true))),
+    ];
+    assert_eq!(blank, [7; ROOM]);
+    for (number, why) in seen {
+        assert_eq!(why.number(), number, "{why:?}");
+    }
+    let numbers = |all: &[Refusal]| all.iter().map(|why| why.number()).collect::<BTreeSet<_>>();
+    assert_eq!(numbers(&seen.map(|(_, why)| why)), numbers(Refusal::ALL));
+    assert_eq!(numbers(Refusal::ALL), (1..=12).chain(16..=18).collect());
+}
+
+#[test]
+fn what_is_not_refused() {
+    let mut room = filled();
+    let mut store = Store::resume(&mut room);
+    for bits in TAG_BITS {
+        assert_eq!(store.tag(tag(), bits, NmaStatus::Test, &given(), true), Ok(1));
+    }
+    let told = store.get_ced_and_status(tag().svn).unwrap();
+    assert_eq!((told.data(), told.authbits(), told.gst()), (&given()[..], 20 + 24 + 28 + 32 + 40, at(1177, 175_740)));
+    store.reset_authbits().unwrap();
+    assert_eq!(store.get_ced_and_status(tag().svn), Err(Refusal::NotEnough));
+}
+
+#[test]
+fn a_refusal_is_an_error() {
+    let why: Box<dyn std::error::Error> = Box::new(Refusal::TooShort);
+    assert_eq!(why.to_string(), "room too short for a fresh store");
+    let texts: BTreeSet<String> = Refusal::ALL.iter().map(|why| why.to_string()).collect();
+    assert_eq!(texts.len(), Refusal::ALL.len());
+}
+
+#[test]
+fn times_and_satellites() {
+    assert_eq!(at(1, 0).add_seconds(-30), Ok(at(0, 604_770)));
+    assert_eq!(at(5, 0).add_seconds(-604_799), Ok(at(4, 1)));
+    assert_eq!(at(1177, 175_767).is_subframe(), Ok(false));
+    assert_eq!(at(1177, 175_740).is_subframe(), Ok(true));
+    assert_eq!(at(1, 0).subframes_difference(at(0, 604_799)), Ok(1));
+    assert_eq!((u16::from(at(7, 8).wn()), u32::from(at(7, 8).tow())), (7, 8));
+    assert_eq!(Gst::new(Wn::from(7), Tow::new(8).unwrap()), at(7, 8));
+    assert_eq!(Svn::iter().count(), usize::from(MOST_SATELLITES));
+    assert_eq!(Svn::iter().map(u8::from).collect::<Vec<_>>(), (1..=MOST_SATELLITES).collect::<Vec<_>>());
+    assert_eq!(Svn::new(1).unwrap().to_string(), "E01");
+    assert_eq!((i8::from(Svn::new(36).unwrap()), u64::from(Svn::new(36).unwrap())), (36, 36));
+}
