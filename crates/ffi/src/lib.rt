@@ -1,5 +1,6 @@
 // The store's calls for C and Rust, under plain names. Room, word and data come as a pointer and a length, numbers as numbers; the
-// number and its values go back by value, and a part of the room as its offset and its bytes. No call asks anything of its caller.
+// number and its values go back by value, and a part of the room as its offset and its bytes. No contract here asks anything; what is owed
+// with a pointer from C stands in include/dawnstook.h.
 ghost use mathlib.Core.Path.{_≡_};
 ghost use mathlib.Core.Bool.{cond};
 ghost use lib.ListN.{length};
