@@ -1,10 +1,10 @@
-//! The bench listing of document 01, its records taken through the crate's calls: each line, and the sum of the whole room after it.
+//! The bench listing of the scope paper, its records taken through the crate's calls: each line, and the sum of the whole room after it.
 use dawnstook::*;
 
-/// Document 01's input; fifteen zero bytes of a word are written as one `z`.
+/// The scope paper's input; fifteen zero bytes of a word are written as one `z`.
 const INPUT: &str = "03 060202 010100 0499 0002ae7c 18 z 010100 0499 0002ae7c 28 z 02010401280201 0499 0002ae9a 0501 09";
 
-/// A line of document 01's listing, and the room's Adler-32 then.
+/// A line of the scope paper's listing, and the room's Adler-32 then.
 const LISTING: [(&str, u32); 7] = [
     ("r 3", 0xe188_0001),
     ("f 0", 0xa1e4_1be9),

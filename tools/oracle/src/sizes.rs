@@ -1,4 +1,4 @@
-//! Every size of store that document 01 allows, behind one trait, since the Rust takes D and N as types.
+//! Every size of store that the scope paper allows, behind one trait, since the Rust takes D and N as types.
 
 use crate::bitfields::{Mack, NmaStatus};
 use crate::navmessage::{CollectNavMessage, NavMessageData};
@@ -94,7 +94,7 @@ macro_rules! satellites {
     };
 }
 
-/// An empty store of depth `d` for `n` satellites, where both are within the limits of document 01.
+/// An empty store of depth `d` for `n` satellites, where both are within the limits of the scope paper.
 pub fn fresh(d: u8, n: u8) -> Option<Box<dyn Store>> {
     satellites!(d, n; U1 U2 U3 U4 U5 U6 U7 U8 U9 U10 U11 U12 U13 U14 U15 U16 U17 U18 U19 U20 U21 U22 U23 U24 U25 U26 U27 U28 U29 U30
         U31 U32 U33 U34 U35 U36)
