@@ -147,7 +147,8 @@ fn fresh(room: &mut [u8; ROOM], d: u8, n: u8) {
     end(room);
 }
 
-fn feed(room: &mut [u8; ROOM], word: &[u8], svn: u8, gst: Gst, band: u8) {
+fn feed(room: &mut [u8; ROOM], word: &[u8], svn: u8, week: u16, tow: u32, band: u8) {
+    let gst = at(week, tow);
     text(b"feed");
     byte(svn);
     time(gst);
@@ -161,10 +162,10 @@ fn feed(room: &mut [u8; ROOM], word: &[u8], svn: u8, gst: Gst, band: u8) {
 }
 
 // A word on E1B of one byte throughout, but for its first, which has the type in its upper six bits.
-fn word(room: &mut [u8; ROOM], first: u8, fill: u8, svn: u8, gst: Gst) {
+fn word(room: &mut [u8; ROOM], first: u8, fill: u8, svn: u8, week: u16, tow: u32) {
     let mut word = [fill; 16];
     word[0] = first;
-    feed(room, &word, svn, gst, 0);
+    feed(room, &word, svn, week, tow, 0);
 }
 
 fn tag(
@@ -174,9 +175,11 @@ fn tag(
     cop: u8,
     bits: u8,
     status: u8,
-    mack: Gst,
+    week: u16,
+    tow: u32,
     given: &[u8],
 ) {
+    let mack = at(week, tow);
     text(b"tag");
     byte(svn);
     byte(kind);
@@ -192,7 +195,17 @@ fn tag(
     end(room);
 }
 
-fn tag_no(room: &mut [u8; ROOM], svn: u8, kind: u8, cop: u8, status: u8, mack: Gst, given: &[u8]) {
+fn tag_no(
+    room: &mut [u8; ROOM],
+    svn: u8,
+    kind: u8,
+    cop: u8,
+    status: u8,
+    week: u16,
+    tow: u32,
+    given: &[u8],
+) {
+    let mack = at(week, tow);
     text(b"tag with the verdict no");
     byte(svn);
     byte(kind);
@@ -203,7 +216,8 @@ fn tag_no(room: &mut [u8; ROOM], svn: u8, kind: u8, cop: u8, status: u8, mack: G
     end(room);
 }
 
-fn candidate(room: &[u8; ROOM], svn: u8, kind: u8, cop: u8, mack: Gst) {
+fn candidate(room: &[u8; ROOM], svn: u8, kind: u8, cop: u8, week: u16, tow: u32) {
+    let mack = at(week, tow);
     text(b"candidate");
     byte(svn);
     byte(kind);
@@ -330,7 +344,7 @@ fn fresh_calls(room: &mut [u8; ROOM]) {
 
 // 3, clause by clause: row 0 is marked and holds E05 in slot 1, row 1 is blank.
 fn no_store(room: &mut [u8; ROOM]) {
-    word(room, 4, 255, 5, at(WEEK, T));
+    word(room, 4, 255, 5, WEEK, T);
     spoilt(room, DEPTH_AT, 0);
     spoilt(room, DEPTH_AT, 17);
     spoilt(room, DEPTH_AT, 3);
@@ -368,86 +382,127 @@ fn no_records(room: &mut [u8; ROOM]) {
     every(room);
 }
 
+// A word of so many bytes, up to 17, each of them ones.
+fn feed_ones(room: &mut [u8; ROOM], bytes: usize, svn: u8, week: u16, tow: u32, band: u8) {
+    let word = [255; 17];
+    if bytes <= 17 {
+        feed(room, &word[0..bytes], svn, week, tow, band);
+    }
+}
+
 // 4, 5, 8, 9, each before those that come later, and 0.
 fn feed_calls(room: &mut [u8; ROOM]) {
-    let word = [255; 17];
     fresh(room, 2, 2);
-    feed(room, &word[0..15], 0, at(WEEK, 604800), 2);
-    feed(room, &word[0..15], 37, at(WEEK, 604800), 2);
-    feed(room, &word[0..15], 1, at(WEEK, 604800), 2);
-    feed(room, &word[0..15], 1, at(WEEK, 604799), 2);
-    feed(room, &word, 36, at(WEEK, T), 0);
-    feed(room, &word[0..0], 36, at(WEEK, T), 0);
-    feed(room, &word[0..16], 1, at(WEEK, T), 2);
-    feed(room, &word[0..16], 1, at(WEEK, T), 255);
-    feed(room, &word[0..16], 1, at(WEEK, T), 1);
+    feed_ones(room, 15, 0, WEEK, 604800, 2);
+    feed_ones(room, 15, 37, WEEK, 604800, 2);
+    feed_ones(room, 15, 1, WEEK, 604800, 2);
+    feed_ones(room, 15, 1, WEEK, 604799, 2);
+    feed_ones(room, 17, 36, WEEK, T, 0);
+    feed_ones(room, 0, 36, WEEK, T, 0);
+    feed_ones(room, 16, 1, WEEK, T, 2);
+    feed_ones(room, 16, 1, WEEK, T, 255);
+    feed_ones(room, 16, 1, WEEK, T, 1);
 }
 
 // The words of an orbit and of the timing parameters, each of ones.
-fn all_words(room: &mut [u8; ROOM], svn: u8, gst: Gst) {
-    word(room, 7, 255, svn, gst);
-    word(room, 11, 255, svn, gst);
-    word(room, 15, 255, svn, gst);
-    word(room, 19, 255, svn, gst);
-    word(room, 23, 255, svn, gst);
-    word(room, 27, 255, svn, gst);
-    word(room, 43, 255, svn, gst);
+fn all_words(room: &mut [u8; ROOM], svn: u8, week: u16, tow: u32) {
+    word(room, 7, 255, svn, week, tow);
+    word(room, 11, 255, svn, week, tow);
+    word(room, 15, 255, svn, week, tow);
+    word(room, 19, 255, svn, week, tow);
+    word(room, 23, 255, svn, week, tow);
+    word(room, 27, 255, svn, week, tow);
+    word(room, 43, 255, svn, week, tow);
+}
+
+// A tag with no data.
+fn tag_of_none(
+    room: &mut [u8; ROOM],
+    svn: u8,
+    kind: u8,
+    cop: u8,
+    bits: u8,
+    status: u8,
+    week: u16,
+    tow: u32,
+) {
+    let given = [255; 69];
+    tag(room, svn, kind, cop, bits, status, week, tow, &given[0..0]);
 }
 
 // 4, 5, 6, 8, 9, 7, 16, 10, each before those that come later.
 fn tag_calls(room: &mut [u8; ROOM]) {
-    let given = [255; 69];
     fresh(room, 2, 2);
-    all_words(room, 1, at(WEEK, 175767));
-    tag(room, 0, 1, 16, 21, 4, at(0, 604800), &given[0..0]);
-    tag(room, 37, 1, 16, 21, 4, at(0, 604800), &given[0..0]);
-    tag(room, 1, 1, 16, 21, 4, at(0, 604800), &given[0..0]);
-    tag(room, 1, 1, 16, 21, 4, at(0, 29), &given[0..0]);
-    tag(room, 1, 1, 16, 40, 4, at(0, 0), &given[0..0]);
-    tag(room, 1, 1, 0, 21, 4, at(0, 0), &given[0..0]);
-    tag(room, 1, 1, 0, 40, 2, at(0, 0), &given[0..0]);
-    tag(room, 1, 0, 0, 40, 4, at(0, 0), &given[0..0]);
-    tag(room, 1, 0, 0, 40, 0, at(0, 0), &given[0..0]);
-    tag(room, 1, 0, 0, 40, 0, at(WEEK, T60), &given[0..0]);
-    tag(room, 1, 0, 1, 40, 0, at(WEEK, T60), &given[0..0]);
-    tag(room, 2, 0, 15, 40, 0, at(WEEK, T30), &given[0..0]);
+    all_words(room, 1, WEEK, 175767);
+    tag_of_none(room, 0, 1, 16, 21, 4, 0, 604800);
+    tag_of_none(room, 37, 1, 16, 21, 4, 0, 604800);
+    tag_of_none(room, 1, 1, 16, 21, 4, 0, 604800);
+    tag_of_none(room, 1, 1, 16, 21, 4, 0, 29);
+    tag_of_none(room, 1, 1, 16, 40, 4, 0, 0);
+    tag_of_none(room, 1, 1, 0, 21, 4, 0, 0);
+    tag_of_none(room, 1, 1, 0, 40, 2, 0, 0);
+    tag_of_none(room, 1, 0, 0, 40, 4, 0, 0);
+    tag_of_none(room, 1, 0, 0, 40, 0, 0, 0);
+    tag_of_none(room, 1, 0, 0, 40, 0, WEEK, T60);
+    tag_of_none(room, 1, 0, 1, 40, 0, WEEK, T60);
+    tag_of_none(room, 2, 0, 15, 40, 0, WEEK, T30);
 }
 
-// 11, 17, 18 and 0: bits past the 549 and the 141 of what is given do not matter.
-fn tags_taken(room: &mut [u8; ROOM]) {
+// A CED tag and a timing tag whose data is ones but for the last byte of it.
+fn tag_ced(room: &mut [u8; ROOM], kind: u8, cop: u8, bits: u8, status: u8, last: u8) {
     let mut given = [255; 69];
-    tag(room, 1, 0, 1, 40, 0, at(WEEK, T30), &given[0..68]);
-    tag(room, 1, 4, 1, 40, 0, at(WEEK, T30), &given);
-    tag_no(room, 1, 0, 1, 3, at(WEEK, T30), &given);
-    tag(room, 1, 0, 1, 40, 0, at(WEEK, T30), &given);
-    tag(room, 1, 0, 1, 40, 3, at(WEEK, T30), &given);
-    tag(room, 1, 0, 1, 20, 1, at(WEEK, T30), &given);
+    given[68] = last;
+    tag(room, 1, kind, cop, bits, status, WEEK, T30, &given);
+}
+
+fn tag_ced_no(room: &mut [u8; ROOM], last: u8) {
+    let mut given = [255; 69];
+    given[68] = last;
+    tag_no(room, 1, 0, 1, 3, WEEK, T30, &given);
+}
+
+fn tag_timing(room: &mut [u8; ROOM], cop: u8, bits: u8, tow: u32) {
+    let given = [255; 18];
+    tag(room, 1, 4, cop, bits, 2, WEEK, tow, &given);
+}
+
+// 11 for a byte less, and for the data of the other family.
+fn tags_other(room: &mut [u8; ROOM]) {
+    let given = [255; 69];
+    tag(room, 1, 0, 1, 40, 0, WEEK, T30, &given[0..68]);
+    tag(room, 1, 4, 1, 40, 0, WEEK, T30, &given);
+}
+
+// 17, 18 and 0: bits past the 549 and the 141 of what is given do not matter, the one before them does.
+fn tags_taken(room: &mut [u8; ROOM]) {
+    tag_ced_no(room, 255);
+    tag_ced(room, 0, 1, 40, 0, 255);
+    tag_ced(room, 0, 1, 40, 3, 255);
+    tag_ced(room, 0, 1, 20, 1, 255);
     ask(room, 1);
-    tag(room, 1, 12, 15, 24, 2, at(WEEK, T30), &given);
-    tag(room, 1, 4, 1, 40, 2, at(WEEK, T30), &given[0..18]);
-    given[68] = 248;
-    tag(room, 1, 0, 1, 28, 2, at(WEEK, T30), &given);
-    given[68] = 240;
-    tag_no(room, 1, 0, 1, 3, at(WEEK, T30), &given);
-    word(room, 3, 255, 1, at(WEEK, T30));
-    tag(room, 1, 4, 1, 32, 2, at(WEEK, T60), &given[0..18]);
-    tag(room, 1, 4, 2, 32, 2, at(WEEK, T60), &given[0..18]);
+    tag_ced(room, 12, 15, 24, 2, 255);
+    tag_timing(room, 1, 40, T30);
+    tag_ced(room, 0, 1, 28, 2, 248);
+    tag_ced_no(room, 240);
+    word(room, 3, 255, 1, WEEK, T30);
+    tag_timing(room, 1, 32, T60);
+    tag_timing(room, 2, 32, T60);
 }
 
 // 4, 5, 6, 8, 9, 7, 16, 10 and 0.
 fn candidate_calls(room: &mut [u8; ROOM]) {
-    candidate(room, 0, 1, 16, at(0, 604800));
-    candidate(room, 37, 1, 16, at(0, 604800));
-    candidate(room, 1, 1, 16, at(0, 604800));
-    candidate(room, 1, 1, 16, at(0, 29));
-    candidate(room, 1, 1, 16, at(0, 0));
-    candidate(room, 1, 1, 0, at(0, 0));
-    candidate(room, 1, 0, 0, at(0, 0));
-    candidate(room, 1, 0, 0, at(WEEK, T60));
-    candidate(room, 1, 0, 1, at(WEEK, T60));
-    candidate(room, 1, 0, 2, at(WEEK, T60));
-    candidate(room, 1, 12, 1, at(WEEK, T30));
-    candidate(room, 1, 4, 1, at(WEEK, T30));
+    candidate(room, 0, 1, 16, 0, 604800);
+    candidate(room, 37, 1, 16, 0, 604800);
+    candidate(room, 1, 1, 16, 0, 604800);
+    candidate(room, 1, 1, 16, 0, 29);
+    candidate(room, 1, 1, 16, 0, 0);
+    candidate(room, 1, 1, 0, 0, 0);
+    candidate(room, 1, 0, 0, 0, 0);
+    candidate(room, 1, 0, 0, WEEK, T60);
+    candidate(room, 1, 0, 1, WEEK, T60);
+    candidate(room, 1, 0, 2, WEEK, T60);
+    candidate(room, 1, 12, 1, WEEK, T30);
+    candidate(room, 1, 4, 1, WEEK, T30);
 }
 
 // 4, 12, 7 and 0: for 7 the ring comes back to the first subframe of all, with words that are two subframes old.
@@ -460,13 +515,13 @@ fn ask_calls(room: &mut [u8; ROOM]) {
     reset(room);
     ask(room, 1);
     fresh(room, 2, 2);
-    all_words(room, 36, at(0, 0));
-    tag(room, 36, 0, 1, 40, 2, at(0, 30), &given);
-    tag(room, 36, 4, 1, 40, 2, at(0, 30), &given[0..18]);
+    all_words(room, 36, 0, 0);
+    tag(room, 36, 0, 1, 40, 2, 0, 30, &given);
+    tag(room, 36, 4, 1, 40, 2, 0, 30, &given[0..18]);
     ask(room, 36);
-    word(room, 3, 255, 36, at(0, 30));
+    word(room, 3, 255, 36, 0, 30);
     ask(room, 36);
-    word(room, 3, 255, 36, at(0, 0));
+    word(room, 3, 255, 36, 0, 0);
     ask(room, 36);
 }
 
@@ -551,7 +606,7 @@ fn sweep(room: &mut [u8; ROOM], name: &[u8], swept: Swept) {
 // D 2 and N 2 with all words of E01 in slot 1 of row 0.
 fn begin(room: &mut [u8; ROOM]) {
     fresh(room, 2, 2);
-    all_words(room, 1, at(WEEK, T));
+    all_words(room, 1, WEEK, T);
 }
 
 fn every_value(room: &mut [u8; ROOM]) {
@@ -564,6 +619,9 @@ fn every_value(room: &mut [u8; ROOM]) {
     sweep(room, b"a tag of every length", Swept::Length);
     sweep(room, b"a tag of every status", Swept::Status);
     sweep(room, b"a tag of every satellite", Swept::TagSatellite);
+}
+
+fn every_value_asked(room: &mut [u8; ROOM]) {
     sweep(room, b"the candidate of every kind", Swept::ShownKind);
     sweep(room, b"the candidate of every COP", Swept::ShownCop);
     sweep(
@@ -600,11 +658,11 @@ fn satellite_twice(room: &mut [u8; ROOM]) {
     take_slot_0(room);
     room[CED_1 + COUNT_AT + 1] = 50;
     room[TIMING_1 + COUNT_AT + 1] = 51;
-    candidate(room, 1, 0, 1, at(WEEK, T30));
-    candidate(room, 1, 4, 1, at(WEEK, T30));
+    candidate(room, 1, 0, 1, WEEK, T30);
+    candidate(room, 1, 4, 1, WEEK, T30);
     ask(room, 1);
-    tag(room, 1, 0, 1, 40, 2, at(WEEK, T30), &given);
-    tag(room, 1, 4, 1, 40, 2, at(WEEK, T30), &given[0..18]);
+    tag(room, 1, 0, 1, 40, 2, WEEK, T30, &given);
+    tag(room, 1, 4, 1, 40, 2, WEEK, T30, &given[0..18]);
     ask(room, 1);
 }
 
@@ -633,19 +691,19 @@ fn ages_of_none(room: &mut [u8; ROOM]) {
     room[CED_0 + AGES_AT + 4] = 2;
     room[TIMING_0 + AGES_AT] = 7;
     room[TIMING_0 + AGES_AT + 1] = 6;
-    word(room, 3, 0, 5, at(WEEK, T));
-    candidate(room, 5, 0, 5, at(WEEK, T30));
-    candidate(room, 5, 0, 6, at(WEEK, T30));
-    candidate(room, 5, 4, 7, at(WEEK, T30));
-    candidate(room, 5, 4, 8, at(WEEK, T30));
+    word(room, 3, 0, 5, WEEK, T);
+    candidate(room, 5, 0, 5, WEEK, T30);
+    candidate(room, 5, 0, 6, WEEK, T30);
+    candidate(room, 5, 4, 7, WEEK, T30);
+    candidate(room, 5, 4, 8, WEEK, T30);
 }
 
 // ---- the examples of STORE 18 that a program runs
 // A fresh store with both timing words of E01, of zeros.
 fn begin_clock(room: &mut [u8; ROOM], d: u8) {
     fresh(room, d, 1);
-    word(room, 24, 0, 1, at(1, 0));
-    word(room, 40, 0, 1, at(1, 0));
+    word(room, 24, 0, 1, 1, 0);
+    word(room, 40, 0, 1, 1, 0);
 }
 
 // A word 6 of E01 whose second byte has one bit: the record's data then starts with 32.
@@ -653,7 +711,7 @@ fn changed_six(room: &mut [u8; ROOM]) {
     let mut six = [0; 16];
     six[0] = 24;
     six[1] = 128;
-    feed(room, &six, 1, at(1, 0), 0);
+    feed(room, &six, 1, 1, 0, 0);
 }
 
 // 18.14: D 3, subframes A, B, A, and a tag for A.
@@ -661,10 +719,10 @@ fn looked_up(room: &mut [u8; ROOM]) {
     let given = [0; 18];
     text(b"D 3, subframes A, B, A\n");
     begin_clock(room, 3);
-    word(room, 0, 0, 1, at(1, 30));
+    word(room, 0, 0, 1, 1, 30);
     changed_six(room);
-    candidate(room, 1, 4, 15, at(1, 30));
-    tag(room, 1, 4, 15, 40, 2, at(1, 30), &given);
+    candidate(room, 1, 4, 15, 1, 30);
+    tag(room, 1, 4, 15, 40, 2, 1, 30, &given);
 }
 
 // 18.15: the same word again, and one with a bit changed.
@@ -672,14 +730,14 @@ fn same_word(room: &mut [u8; ROOM]) {
     let mut given = [0; 18];
     text(b"the same word again, and one with a bit changed\n");
     begin_clock(room, 1);
-    tag(room, 1, 4, 15, 40, 2, at(1, 30), &given);
+    tag(room, 1, 4, 15, 40, 2, 1, 30, &given);
     ask(room, 1);
-    word(room, 24, 0, 1, at(1, 0));
+    word(room, 24, 0, 1, 1, 0);
     ask(room, 1);
     changed_six(room);
     ask(room, 1);
     given[0] = 32;
-    tag(room, 1, 4, 15, 40, 2, at(1, 30), &given);
+    tag(room, 1, 4, 15, 40, 2, 1, 30, &given);
     ask(room, 1);
 }
 
@@ -690,10 +748,12 @@ fn main() {
     no_records(&mut room);
     feed_calls(&mut room);
     tag_calls(&mut room);
+    tags_other(&mut room);
     tags_taken(&mut room);
     candidate_calls(&mut room);
     ask_calls(&mut room);
     every_value(&mut room);
+    every_value_asked(&mut room);
     satellite_twice(&mut room);
     row_times(&mut room);
     ages_of_none(&mut room);
