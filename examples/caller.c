@@ -1,5 +1,5 @@
 /* What the header says of the calls and asks of the caller, tried: NULL with length 0, no alignment, no byte outside of a range, sizes,
- * texts, every number, the stack. For x86-64 on a system with mmap. */
+ * texts, every number, any bytes as a reader, the stack. For x86-64 on a system with mmap. */
 #define _DEFAULT_SOURCE
 #include <stdio.h>
 #include <stdlib.h>
@@ -49,6 +49,55 @@ static void use(uint8_t *room, size_t len, uint8_t *word, uint8_t *given) {
     need(timing.number == DAWNSTOOK_DONE && timing.authbits == 144 && timing.bytes == DAWNSTOOK_TIMING_BYTES, "asking timing");
 }
 
+/* Records of an input (STORE 17.2): each answers how many bytes it wrote. */
+static size_t put_time(uint8_t *at, uint32_t time) {
+    const uint8_t bytes[] = { WEEK >> 8, WEEK & 255, (uint8_t)(time >> 24), (uint8_t)(time >> 16), (uint8_t)(time >> 8), (uint8_t)time };
+    memcpy(at, bytes, sizeof bytes);
+    return sizeof bytes;
+}
+static size_t put_word(uint8_t *at, uint8_t type, uint32_t time) {
+    at[0] = 1, at[1] = SAT, at[2] = DAWNSTOOK_E1B;
+    uint8_t *word = at + 3 + put_time(at + 3, time);
+    memset(word, type, DAWNSTOOK_WORD_BYTES);
+    word[0] = (uint8_t)(type << 2);
+    return 9 + DAWNSTOOK_WORD_BYTES;
+}
+static size_t put_tag(uint8_t *at, uint8_t kind, uint8_t bits, uint32_t mack) {
+    at[0] = 2, at[1] = SAT, at[2] = kind, at[3] = 1, at[4] = bits, at[5] = DAWNSTOOK_OPERATIONAL, at[6] = 1;
+    return 7 + put_time(at + 7, mack);
+}
+
+/* The calls of `use` as an input, through a reader in parts of so many bytes, all at places that the caller chooses. */
+static void hear(uint8_t *reader, uint8_t *room, size_t len, uint8_t *place, size_t bytes, uint8_t *out) {
+    static const uint8_t kinds[] = { DAWNSTOOK_CED, DAWNSTOOK_TIMING, DAWNSTOOK_SLOW_CED }, asking[] = { 4, SAT, 5, SAT };
+    static const uint8_t lengths[] = DAWNSTOOK_TAG_BITS;
+    uint8_t input[3 + 10 * 25 + sizeof kinds * sizeof lengths * 13 + sizeof asking] = { 6, D, N };
+    size_t whole = 3, lines = 0;
+    for (uint8_t type = 1; type <= 10; type++) whole += put_word(input + whole, type, START);
+    for (size_t k = 0; k < sizeof kinds; k++)
+        for (size_t i = 0; i < sizeof lengths; i++) whole += put_tag(input + whole, kinds[k], lengths[i], MACK);
+    memcpy(input + whole, asking, sizeof asking);
+    need(whole + sizeof asking == sizeof input, "the records of an input");
+    memset(reader, 0, DAWNSTOOK_READER_BYTES);
+    for (size_t from = 0; from < sizeof input; from += bytes) {
+        size_t part = sizeof input - from < bytes ? sizeof input - from : bytes;
+        /* the part stands at the end of the place, as the data of a tag does */
+        uint8_t *at = place + bytes - part, *end = place + bytes;
+        memcpy(at, input + from, part);
+        while (at < end) {
+            dawnstook_heard heard = dawnstook_part(reader, room, len, at, (size_t)(end - at), out, DAWNSTOOK_LONGEST_LINE);
+            need(heard.number == DAWNSTOOK_DONE && heard.took > 0 && heard.took <= (size_t)(end - at), "bytes of a part are taken");
+            need(heard.said == 0 || (heard.said >= 4 && heard.said <= DAWNSTOOK_LONGEST_LINE && memcmp(out + 1, " 0", 2) == 0
+                                     && memchr(out, '\n', heard.said) == out + heard.said - 1), "a record is answered 0 in one line");
+            lines += heard.said > 0;
+            at += heard.took;
+        }
+    }
+    need(lines == 1 + 10 + 15 + 2, "a line for each record");
+    dawnstook_closed closed = dawnstook_end(reader, room, len, out, DAWNSTOOK_LONGEST_LINE);
+    need(closed.number == DAWNSTOOK_DONE && closed.taken && closed.said == 0, "an end between records");
+}
+
 /* A range of memory with no byte before it, or none behind it, that may be touched. */
 static uint8_t *fenced(size_t bytes, bool at_end) {
     size_t page = (size_t)sysconf(_SC_PAGESIZE), pages = (bytes + page - 1) / page * page;
@@ -60,16 +109,30 @@ static uint8_t *fenced(size_t bytes, bool at_end) {
 
 static void ranges(void) {
     static uint8_t first[SIZE], room[SIZE + 16], word[DAWNSTOOK_WORD_BYTES + 16], given[DAWNSTOOK_CED_BYTES + 16];
+    static uint8_t reader[DAWNSTOOK_READER_BYTES + 16], place[40 + 16], out[DAWNSTOOK_LONGEST_LINE + 16];
     use(first, sizeof first, word, given);
     for (size_t i = 0; i < 16; i++) {
         use(room + i, SIZE, word + (i * 3) % 16, given + (i * 7) % 16);
         need(memcmp(room + i, first, SIZE) == 0, "the same room at any place");
+        memset(room, 0, sizeof room);
+        hear(reader + (i * 5) % 16, room + i, SIZE, place + (i * 11) % 16, 40 - i, out + (i * 13) % 16);
+        need(memcmp(room + i, first, SIZE) == 0, "the same room through a reader at any place");
     }
     puts("no alignment: the same room at 16 places");
     for (int at_end = 0; at_end < 2; at_end++) {
         uint8_t *fence = fenced(SIZE, at_end);
         use(fence, SIZE, fenced(DAWNSTOOK_WORD_BYTES, at_end), fenced(DAWNSTOOK_CED_BYTES, at_end));
         need(memcmp(fence, first, SIZE) == 0, "the same room between fences");
+        memset(fence, 0, SIZE);
+        uint8_t *fenced_reader = fenced(DAWNSTOOK_READER_BYTES, at_end), *fenced_out = fenced(DAWNSTOOK_LONGEST_LINE, at_end);
+        for (size_t bytes = 1; bytes <= 64; bytes *= 2) hear(fenced_reader, fence, SIZE, fenced(bytes, at_end), bytes, fenced_out);
+        need(memcmp(fence, first, SIZE) == 0, "the same room through a reader between fences");
+        for (size_t len = 0; len < DAWNSTOOK_LONGEST_LINE; len += 47) {
+            uint8_t *reset = fenced(1, at_end), *part = fenced(len, at_end);
+            *reset = 3;
+            memset(fenced_reader, 0, DAWNSTOOK_READER_BYTES);
+            need(dawnstook_part(fenced_reader, fence, SIZE, reset, 1, part, len).took == 0, "a part of a line's room is too short");
+        }
         need(dawnstook_reset_authbits(fence, SIZE) == DAWNSTOOK_DONE, "a reset");
         for (size_t len = 0; len < SIZE; len += len < 16 ? 1 : 97) {
             uint8_t *part = fenced(len, at_end);
@@ -78,7 +141,7 @@ static void ranges(void) {
             need(dawnstook_fresh(part, len, D, N) == DAWNSTOOK_TOO_SHORT, "a part is too short");
         }
     }
-    puts("no byte outside of a range is touched: room, word and data between fences");
+    puts("no byte outside of a range is touched: room, word, data, reader, part and output between fences");
     memset(room, 7, sizeof room);
     need(dawnstook_fresh(room, sizeof room, D, N) == DAWNSTOOK_DONE, "a fresh store in a longer room");
     for (size_t i = SIZE; i < sizeof room; i++) need(room[i] == 7, "bytes past the size stay");
@@ -108,6 +171,39 @@ static void nothing(void) {
                               MACK, NULL, 0, true);
         printf("NULL as data of 0 bytes given with a %s tag: %d\n", timing_tag ? "timing" : "CED", taken.number);
     }
+    uint8_t reader[DAWNSTOOK_READER_BYTES] = { 0 }, out[DAWNSTOOK_LONGEST_LINE];
+    const uint8_t fresh[] = { 6, D, N };
+    dawnstook_heard heard = dawnstook_part(reader, NULL, 0, fresh, sizeof fresh, out, sizeof out);
+    printf("NULL as a room of 0 bytes for a record: %d, %zu of %zu bytes taken: %.*s", heard.number, heard.took, sizeof fresh,
+           (int)heard.said, (const char *)out);
+    heard = dawnstook_part(reader, room, sizeof room, NULL, 0, out, sizeof out);
+    printf("NULL as a part of 0 bytes: %d, %zu bytes taken\n", heard.number, heard.took);
+    heard = dawnstook_part(reader, room, sizeof room, fresh, sizeof fresh, NULL, 0);
+    printf("NULL as an output of 0 bytes: %d, %zu of %zu bytes taken\n", heard.number, heard.took, sizeof fresh);
+    dawnstook_closed early = dawnstook_end(reader, room, sizeof room, NULL, 0);
+    dawnstook_closed closed = dawnstook_end(reader, NULL, 0, out, sizeof out), again = dawnstook_end(reader, NULL, 0, NULL, 0);
+    need(!early.taken && closed.taken && again.taken && early.said == 0 && closed.said == 5 && again.said == 0, "an end is taken once");
+    printf("NULL as an output at the end: %d, not taken; as a room there: %d; as both, later: %d\n", early.number, closed.number,
+           again.number);
+}
+
+/* Any bytes are a reader: it takes a part with room for its lines, and ends once. */
+static void readers(void) {
+    static uint8_t room[SIZE], reader[DAWNSTOOK_READER_BYTES], out[2 * DAWNSTOOK_LONGEST_LINE];
+    const uint8_t part[] = { 4, SAT };
+    for (unsigned fill = 0; fill < 256; fill++)
+        for (unsigned last = 0; last < 4 * 256; last++) {
+            memset(reader, (int)fill, sizeof reader);
+            /* how many bytes it keeps, whether it has ended and with what */
+            reader[25] = (uint8_t)(last / 4), reader[26] = (uint8_t)(last & 1), reader[27] = (uint8_t)(last & 2);
+            dawnstook_heard heard = dawnstook_part(reader, room, SIZE, part, sizeof part, out, sizeof out);
+            need(heard.took == sizeof part && heard.said <= sizeof out, "any bytes take a part");
+            if (last & 1) need(heard.number == (last & 2) && heard.said == 0, "a reader that has ended says with what");
+            dawnstook_closed closed = dawnstook_end(reader, room, SIZE, out, sizeof out);
+            dawnstook_closed again = dawnstook_end(reader, room, SIZE, NULL, 0);
+            need(closed.taken && again.taken && again.number == closed.number && again.said == 0, "a second end is the first");
+        }
+    puts("any bytes are a reader");
 }
 
 static void constants(void) {
@@ -127,7 +223,8 @@ static void constants(void) {
 /* Every number that a call may answer, once. */
 static void numbers(void) {
     static uint8_t room[SIZE], before[SIZE], word[DAWNSTOOK_WORD_BYTES], given[DAWNSTOOK_CED_BYTES];
-    const uint8_t op = DAWNSTOOK_OPERATIONAL;
+    static uint8_t ended[DAWNSTOOK_READER_BYTES], cut[DAWNSTOOK_READER_BYTES], out[DAWNSTOOK_LONGEST_LINE];
+    const uint8_t op = DAWNSTOOK_OPERATIONAL, unknown = 0, fresh = 6;
     need(dawnstook_fresh(room, sizeof room, D, N) == DAWNSTOOK_DONE, "a fresh store");
     words(room, sizeof room, word);
     memcpy(given, room + dawnstook_candidate(room, SIZE, SAT, DAWNSTOOK_CED, 1, WEEK, MACK).offset, sizeof given);
@@ -146,6 +243,9 @@ static void numbers(void) {
     printf(" %d", dawnstook_tag(room, SIZE, SAT, DAWNSTOOK_CED, 1, 40, op, WEEK, MACK, given, sizeof given, true).number);
     given[0] ^= 1;
     printf(" %d", dawnstook_get_ced_and_status(room, SIZE, SAT).number);
+    printf(" %d", dawnstook_part(ended, room, SIZE, &unknown, 1, out, sizeof out).number);
+    need(dawnstook_part(cut, room, SIZE, &fresh, 1, out, sizeof out).number == DAWNSTOOK_DONE, "the beginning of a record");
+    printf(" %d", dawnstook_end(cut, room, SIZE, out, sizeof out).number);
     printf(" %d", dawnstook_tag(room, SIZE, SAT, DAWNSTOOK_CED, 0, 40, op, WEEK, MACK, given, sizeof given, true).number);
     printf(" %d", dawnstook_tag(room, SIZE, SAT, DAWNSTOOK_CED, 1, 40, op, WEEK, MACK, given, sizeof given, false).number);
     printf(" %d\n", dawnstook_tag(room, SIZE, SAT, DAWNSTOOK_CED, 1, 40, DAWNSTOOK_DONT_USE, WEEK, MACK, given, sizeof given, true).number);
@@ -156,6 +256,8 @@ static void numbers(void) {
 /* A body run on a stack of its own, painted before; what is painted no more was needed. */
 static uint8_t stack[1 << 14], stack_room[DAWNSTOOK_ROOM_SIZE(DAWNSTOOK_MOST_ROWS, DAWNSTOOK_MOST_SLOTS)];
 static uint8_t stack_word[DAWNSTOOK_WORD_BYTES], stack_given[DAWNSTOOK_CED_BYTES];
+static uint8_t stack_reader[DAWNSTOOK_READER_BYTES], stack_record[9 + DAWNSTOOK_WORD_BYTES], stack_out[DAWNSTOOK_LONGEST_LINE];
+static size_t stack_bytes, stack_said;
 static uint32_t stack_time = START;
 static uint8_t stack_number;
 static size_t stack_most;
@@ -191,10 +293,25 @@ static void on_times(void) {
         | dawnstook_gst_subframe(WEEK, START).number | dawnstook_is_subframe(WEEK, START).number
         | dawnstook_subframes_difference(WEEK, START, WEEK, 0).number;
 }
+static void on_part(void) {
+    dawnstook_heard heard = dawnstook_part(stack_reader, stack_room, sizeof stack_room, stack_record, stack_bytes, stack_out,
+                                           sizeof stack_out);
+    stack_number = heard.number, stack_said = heard.said;
+}
+static void on_end(void) {
+    dawnstook_closed closed = dawnstook_end(stack_reader, stack_room, sizeof stack_room, stack_out, sizeof stack_out);
+    stack_number = closed.number, stack_said = closed.said;
+}
 static void within(void (*body)(void), uint8_t number, const char *what) {
     size_t bytes = needed(body) - needed(on_nothing); /* the call's arguments and result, its return address and all below */
     need(stack_number == number, what);
     if (bytes > stack_most) stack_most = bytes;
+}
+/* A record in one part, with what its line begins with. */
+static void record_within(size_t bytes, uint8_t number, const char *line) {
+    stack_bytes = bytes;
+    within(on_part, number, line);
+    need(stack_said >= strlen(line) && memcmp(stack_out, line, strlen(line)) == 0, line);
 }
 static void stacks(void) {
     within(on_fresh, DAWNSTOOK_DONE, "fresh");
@@ -213,6 +330,25 @@ static void stacks(void) {
     within(on_timing, DAWNSTOOK_NOT_ENOUGH, "asking timing");
     within(on_reset, DAWNSTOOK_DONE, "reset");
     within(on_times, DAWNSTOOK_DONE, "times");
+    for (int row = 0; row < 2; row++) {
+        stack_time += DAWNSTOOK_SUBFRAME_SECONDS;
+        for (uint8_t type = 0; type < 64; type++) record_within(put_word(stack_record, type, stack_time), DAWNSTOOK_DONE, "w 0\n");
+    }
+    record_within(put_tag(stack_record, DAWNSTOOK_CED, 40, stack_time + 30), DAWNSTOOK_DONE, "t 0 ");
+    record_within(put_tag(stack_record, DAWNSTOOK_TIMING, 40, stack_time + 30), DAWNSTOOK_DONE, "t 0 ");
+    for (uint8_t kind = 4; kind <= 5; kind++) {
+        stack_record[0] = kind, stack_record[1] = SAT;
+        record_within(2, DAWNSTOOK_DONE, kind == 4 ? "c 0 E11 40 1177 " : "p 0 E11 40 1177 ");
+    }
+    stack_record[0] = 3;
+    record_within(1, DAWNSTOOK_DONE, "r 0\n");
+    stack_record[0] = 6, stack_record[1] = DAWNSTOOK_MOST_ROWS, stack_record[2] = DAWNSTOOK_MOST_SLOTS;
+    record_within(3, DAWNSTOOK_DONE, "f 0\n");
+    record_within(2, DAWNSTOOK_DONE, "");
+    within(on_end, DAWNSTOOK_CUT_SHORT, "an end inside a record");
+    memset(stack_reader, 0, sizeof stack_reader);
+    stack_record[0] = 0;
+    record_within(1, DAWNSTOOK_UNKNOWN_KIND, "x 13\n");
     fprintf(stderr, "caller: the deepest call needed %zu bytes of stack\n", stack_most);
     need(stack_most <= DAWNSTOOK_STACK_BYTES, "the stack is enough");
     printf("no call needed more than %d bytes of stack\n", DAWNSTOOK_STACK_BYTES);
@@ -220,6 +356,7 @@ static void stacks(void) {
 
 int main(void) {
     nothing();
+    readers();
     ranges();
     constants();
     numbers();

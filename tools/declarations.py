@@ -1,24 +1,31 @@
 """Holds the C header and the Rust crate to the code: to the exports of crates/ffi the names of the calls and of each the number, the order
-and the width of its parameters, what it hands back, and the fields of the structs; to crates/refusals the numbers; to the crates that have
-them the limits and sizes; to the definitions of crates/paper the order of refusals in the header's comments; and to each other names, texts,
-codes and versions.
+and the width of its parameters, what it hands back, and the fields of the structs; to crates/refusals the numbers, and those of an input to
+benchlines and intake; to the crates that have them the limits and sizes; to the definitions of crates/paper the order of refusals in the
+header's comments; and to each other names, texts, codes and versions.
 
 usage: declarations.py      in the repository's top folder
 """
+import glob
 import re
 import sys
 
 HEADER, SYS, RUST = "include/dawnstook.h", "rust/src/sys.rs", "rust/src/"
 
-# a slice is a pointer and a length
-RATTLE = {"&mut [u8]": ["*mut u8", "usize"], "&[u8]": ["*const u8", "usize"]}
+# a slice is a pointer and a length, an array a pointer alone: its length is one of CONSTANTS
+RATTLE = {"&mut [u8]": ["*mut u8", "usize"], "&[u8]": ["*const u8", "usize"], "&mut [u8; READER]": ["*mut u8"]}
 C = {
     "uint8_t": "u8", "uint16_t": "u16", "uint32_t": "u32", "int32_t": "i32", "size_t": "usize", "bool": "bool",
     "uint8_t *": "*mut u8", "const uint8_t *": "*const u8",
 }
 
+# the crates that have the structs which the exports hand back
+STRUCTS = ["ffi", "intake"]
+
 # the code's names of refusals that are others outside, where they could be taken for each other or for an unlisted number
 RENAMED = {"NoTime": "TowTooLarge", "OutOfTime": "TimeArithmetic", "Unknown": "UnknownCode"}
+
+# the numbers of an input of records, which no call on a room answers: the crate that has each, and its name there
+OF_INPUT = {"UnknownKind": ("benchlines", "UNKNOWN_KIND"), "CutShort": ("intake", "CUT_SHORT")}
 
 # a constant of the header and of the crate, and the code's: its crate and its name there
 CONSTANTS = {
@@ -28,7 +35,7 @@ CONSTANTS = {
     "TIMING_BITS": ("records", "Timing::BITS"), "TIMING_BYTES": ("records", "Timing::BYTES"), "MOST_COUNT": ("records", "MOST_COUNT"),
     "LEAST_COUNT": ("ask", "LEAST_COUNT"), "MOST_SATELLITES": ("svn", "MOST_SATELLITES"), "WORD_BYTES": ("limits", "WORD_BYTES"),
     "WEEK_SECONDS": ("gst", "WEEK_SECONDS"), "SUBFRAME_SECONDS": ("gst", "SUBFRAME_SECONDS"),
-    "MOST_SUBFRAMES": ("gst", "MOST_SUBFRAMES"),
+    "MOST_SUBFRAMES": ("gst", "MOST_SUBFRAMES"), "READER_BYTES": ("intake", "READER"), "LONGEST_LINE": ("lines", "LONGEST_LINE"),
 }
 
 # the definition of crates/paper that has the order of a call's refusals
@@ -54,6 +61,10 @@ def without_comments(text):
     return re.sub(r"//[^\n]*|/\*.*?\*/", "", text, flags=re.S)
 
 
+def code_of(crate):
+    return without_comments(read(f"crates/{crate}/src/lib.rt"))
+
+
 def split(parameters):
     return [p.strip() for p in parameters.split(",") if p.strip() and p.strip() != "void"]
 
@@ -71,16 +82,18 @@ def structs_like_rust(text):
     return found
 
 
-def of_rattle(text):
-    calls = {}
-    pattern = r"#\[no_mangle\]\s*pub extern \"C\" fn (\w+)\((.*?)\)\s*(?:->\s*(\w+))?\s*(?:requires|ensures|\{)"
+def of_rattle():
+    text, calls, structs = code_of("ffi"), {}, {}
+    pattern = r"#\[no_mangle\]\s*pub extern \"C\" fn (\w+)\((.*?)\)\s*(?:->\s*(?:\w+::)?(\w+))?\s*(?:requires|ensures|\{)"
     for name, parameters, result in re.findall(pattern, text, re.S):
         types = []
         for p in split(parameters):
             kind = p.split(":", 1)[1].strip()
             types += RATTLE.get(kind, [kind])
         calls[name] = (types, result)
-    return calls, structs_like_rust(text)
+    for crate in STRUCTS:
+        structs.update(structs_like_rust(code_of(crate)))
+    return calls, structs
 
 
 def of_rust(text):
@@ -150,17 +163,38 @@ def solve(expressions, known):
     return known
 
 
-def constants_of_code(crates):
+def constants_of_crate(crate):
+    """Its constants as crate.NAME or crate.Type.NAME, and the names in their expressions so too, since crates may have different constants
+    of one name: a name is of the crate that it says, or that a `use` says, or else the crate's own."""
+    text, kind, expressions = code_of(crate), "", {}
+    used = {name: other for other, name in re.findall(r"^use (\w+)::(\w+);", text, re.M)}
+
+    def whole(name):
+        first, *rest = name.group(0).split("::")
+        return ".".join(([] if rest and first.islower() else [used.get(first, crate)]) + [first, *rest])
+
+    for line in text.splitlines():
+        opened = re.match(r"impl (\w+) \{", line)
+        kind = opened.group(1) + "." if opened else "" if line.startswith("}") else kind
+        constant = re.match(r"\s*(?:pub )?const (\w+): \w+ = (.*);", line)
+        if constant:
+            expression = re.sub(r"\bas \w+", "", constant.group(2))
+            expressions[f"{crate}.{kind}{constant.group(1)}"] = re.sub(r"\b[A-Za-z_][\w:]*", whole, expression)
+    return expressions
+
+
+def constants_of_code():
     expressions = {}
-    for crate in crates:
-        kind = ""
-        for line in without_comments(read(f"crates/{crate}/src/lib.rt")).splitlines():
-            opened = re.match(r"impl (\w+) \{", line)
-            kind = opened.group(1) + "." if opened else "" if line.startswith("}") else kind
-            constant = re.match(r"\s*(?:pub )?const (\w+): \w+ = (.*);", line)
-            if constant:
-                expressions[kind + constant.group(1)] = constant.group(2)
+    for file in sorted(glob.glob("crates/*/src/lib.rt")):
+        expressions.update(constants_of_crate(file.split("/")[1]))
     return solve(expressions, {})
+
+
+def constant_of(crate, name, code):
+    found = code.get(f"{crate}.{name}".replace("::", "."))
+    if found is None:
+        sys.exit(f"outside: crates/{crate}: no constant {name}")
+    return found
 
 
 def constants_of_header(text):
@@ -247,7 +281,7 @@ class Held:
 
 
 def calls(held, header):
-    exports = of_rattle(without_comments(read("crates/ffi/src/lib.rt")))
+    exports = of_rattle()
     if not exports[0]:
         sys.exit("outside: no exports found in crates/ffi")
     for where, other in ((HEADER, of_header(header)), (SYS, of_rust(without_comments(read(SYS))))):
@@ -265,12 +299,15 @@ def numbers(held, header):
     of_rust_table = refusals_of_rust(read(RUST + "refusal.rs"))
     if len(code) < 2:
         sys.exit("outside: no numbers found in crates/refusals")
+    in_code = constants_of_code()
+    code.update({n: constant_of(*at, in_code) for n, at in OF_INPUT.items()})
     held.same(f"{HEADER}: numbers", {camel(n): v for n, v in of_c.items()}, dict(Done=0, **code))
     held.same(f"{RUST}refusal.rs: numbers", {n: v for n, (v, _) in of_rust_table.items()}, code)
     held.same(f"{HEADER}: numbers that have a text", sorted(texts), sorted(of_c))
     held.same(f"{RUST}refusal.rs: texts", {n: t for n, (_, t) in of_rust_table.items()},
               {camel(n): t for n, t in texts.items() if n != "DONE"})
-    held.done(before, f"header and crate have the {len(code)} numbers of crates/refusals, and one text for each")
+    own = len(code) - len(OF_INPUT)
+    held.done(before, f"header and crate have the {own} numbers of crates/refusals and the {len(OF_INPUT)} of an input, and one text for each")
 
 
 def orders(held, _):
@@ -289,19 +326,17 @@ def codes(held, header):
         body = re.search(r"^    " + rust_name + r" \{(.*?)^    \}", store, re.S | re.M).group(1)
         in_rust = {n: int(v) for n, v in re.findall(r"^ +(\w+) = (\d+),$", body, re.M)}
         held.same(f"{RUST}store.rs: {rust_name}", in_rust, {names.get(n): v for n, v in of_c.items()})
-    kinds = constants_of_code(["limits"])
-    held.same(f"{HEADER}: kinds", enum_of_header(header, "kind"), {n: kinds.get(n + "_KIND") for n in CODES["kind"][1]})
+    code = constants_of_code()
+    kinds = {n: constant_of("limits", n + "_KIND", code) for n in CODES["kind"][1]}
+    held.same(f"{HEADER}: kinds", enum_of_header(header, "kind"), kinds)
     held.done(before, "header and crate have the same codes, the kinds those of crates/limits")
 
 
 def constants(held, header):
     before = held.wrong
-    code = constants_of_code(["records", "layout", "limits", "svn", "gst", "ask"])
-    expected = {n: code.get(at.replace("::", ".")) for n, (_, at) in CONSTANTS.items()}
-    for name, number in expected.items():
-        if number is None:
-            sys.exit("outside: crates/{}: no constant {}".format(*CONSTANTS[name]))
-    limits = without_comments(read("crates/limits/src/lib.rt"))
+    code = constants_of_code()
+    expected = {n: constant_of(*at, code) for n, at in CONSTANTS.items()}
+    limits = code_of("limits")
     expected["MOST_COP"] = int(re.search(r"\bcop <= (\d+)", limits).group(1))
     expected["STACK_BYTES"] = deepest_stack()
     of_c, rust = constants_of_header(header), without_comments(read(RUST + "limits.rs"))

@@ -3,7 +3,8 @@ use core::fmt;
 
 macro_rules! refusals {
     ($($name:ident = $number:literal: $text:literal,)*) => {
-        /// Why a call refused. A call that refuses changes no byte of the room.
+        /// Why a call refused. A call of a [`crate::Store`] that refuses changes no byte of the room; with `UnknownKind` and `CutShort` a
+        /// [`crate::Reader`] says why its input has ended.
         #[derive(Clone, Copy, Debug, PartialEq, Eq, Hash)]
         pub enum Refusal {
             $(
@@ -61,6 +62,8 @@ refusals! {
     NoCandidate = 10: "no data that the tag could be of",
     OtherData = 11: "the data given is not the candidate's",
     NotEnough = 12: "no record of the satellite has enough bits of tags",
+    UnknownKind = 13: "a byte that is no kind of record",
+    CutShort = 14: "the input ended inside a record",
     Dummy = 16: "COP 0, nothing added",
     VerdictNo = 17: "the tag is not right, nothing added",
     StatusAddsNothing = 18: "status reserved or don't use, nothing added",

@@ -1,4 +1,4 @@
-//! The archive's exports, a slice as a pointer and a length. `tools/outside` checks them against crates/ffi.
+//! The archive's exports, a slice as a pointer and a length, a reader as a pointer alone. `tools/outside` checks them against crates/ffi.
 
 #[repr(C)]
 pub struct Taken {
@@ -42,6 +42,20 @@ pub struct Span {
     pub subframes: i32,
 }
 
+#[repr(C)]
+pub struct Heard {
+    pub number: u8,
+    pub took: usize,
+    pub said: usize,
+}
+
+#[repr(C)]
+pub struct Closed {
+    pub number: u8,
+    pub taken: bool,
+    pub said: usize,
+}
+
 extern "C" {
     // the crate's own room_size is a const fn, which the tests hold to this
     #[allow(dead_code)]
@@ -71,4 +85,14 @@ extern "C" {
     pub fn dawnstook_gst_subframe(week: u16, time: u32) -> Moment;
     pub fn dawnstook_is_subframe(week: u16, time: u32) -> Mark;
     pub fn dawnstook_subframes_difference(week: u16, time: u32, other_week: u16, other_time: u32) -> Span;
+    pub fn dawnstook_part(
+        reader: *mut u8,
+        room: *mut u8,
+        room_len: usize,
+        bytes: *const u8,
+        bytes_len: usize,
+        out: *mut u8,
+        out_len: usize,
+    ) -> Heard;
+    pub fn dawnstook_end(reader: *mut u8, room: *const u8, room_len: usize, out: *mut u8, out_len: usize) -> Closed;
 }

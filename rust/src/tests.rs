@@ -26,8 +26,8 @@ fn only_zero_is_success() {
             }
         }
     }
-    assert_eq!(Refusal::check(13), Err(Refusal::Unlisted(13)));
-    assert_eq!(Refusal::Unlisted(13).to_string(), "answer 13 is not one of version 0.2.0");
+    assert_eq!(Refusal::check(15), Err(Refusal::Unlisted(15)));
+    assert_eq!(Refusal::Unlisted(15).to_string(), "answer 15 is not one of version 0.3.0");
 }
 
 /// The constructors refuse with the number that the archive answers to the same number.

@@ -1,4 +1,5 @@
-//! The bench listing of the scope paper, its records taken through the crate's calls: each line, and the sum of the whole room after it.
+//! The bench listing of the scope paper, its records taken through the crate's calls, and through its reader: each line, and the sum of the
+//! whole room after it.
 use dawnstook::*;
 
 /// The scope paper's input; fifteen zero bytes of a word are written as one `z`.
@@ -81,4 +82,20 @@ fn document_01s_listing() {
         at += 1 + length;
     }
     assert_eq!(at, input.len());
+}
+
+/// With an output for one line a call stops behind each record, inside the next.
+#[test]
+fn document_01s_listing_through_a_reader() {
+    let input = input();
+    let (mut reader, mut room, mut rest) = (Reader::new(), [0; MOST_ROOM], &input[..]);
+    for (expected, sum) in LISTING {
+        let mut out = [0; LONGEST_LINE];
+        let heard = reader.part(&mut room, rest, &mut out);
+        assert_eq!(String::from_utf8_lossy(&out[..heard.said]), format!("{expected}\n"));
+        assert_eq!(adler32(&room), sum, "after {expected}");
+        rest = &rest[heard.took..];
+    }
+    assert!(rest.is_empty());
+    assert_eq!(reader.end_with(&room, |_| unreachable!("an input ends once")), Err(Refusal::UnknownKind));
 }

@@ -37,6 +37,12 @@ fn given() -> Vec<u8> {
     Store::resume(&mut room).candidate(tag()).unwrap().to_vec()
 }
 
+/// What a part of an input and the end behind it come to, on a room without a store.
+fn read(bytes: &[u8]) -> (Result<(), Refusal>, Result<(), Refusal>) {
+    let (mut reader, mut room) = (Reader::new(), [0; ROOM]);
+    (reader.part_with(&mut room, bytes, |_| ()), reader.end_with(&room, |_| ()))
+}
+
 #[test]
 fn every_refusal_once() {
     let operational = NmaStatus::Operational;
@@ -70,6 +76,8 @@ fn every_refusal_once() {
         (11, refused(|store| store.tag(tag(), 40, operational, &[], true))),
         (12, refused(|store| store.get_ced_and_status(tag().svn).map(|_| ()))),
         (12, refused(|store| store.get_timing_parameters(tag().svn).map(|_| ()))),
+        (13, read(&[3, 0, 3]).0.unwrap_err()),
+        (14, read(&[3, 6, 2]).1.unwrap_err()),
         (16, refused(|store| store.tag(Tag { cop: 0, ..tag() }, 40, operational, &given(), true))),
         (17, refused(|store| store.tag(tag(), 40, operational, &given(), false))),
         (18, refused(|store| store.tag(tag(), 40, NmaStatus::Reserved, &given(), true))),
@@ -81,7 +89,7 @@ fn every_refusal_once() {
     }
     let numbers = |all: &[Refusal]| all.iter().map(|why| why.number()).collect::<BTreeSet<_>>();
     assert_eq!(numbers(&seen.map(|(_, why)| why)), numbers(Refusal::ALL));
-    assert_eq!(numbers(Refusal::ALL), (1..=12).chain(16..=18).collect());
+    assert_eq!(numbers(Refusal::ALL), (1..=14).chain(16..=18).collect());
 }
 
 #[test]

@@ -30,30 +30,45 @@ tagCallOn body room =
     (candidateOn body room)
     (not (eqb (getD body 5 0) 0))
 
--- the call of a record on a room; an unknown kind makes none
-abbrev pub callsOf : Kind → List ℕ → List ℕ → List Call
-callsOf Word body room = wordCall body ∷ []
-callsOf Tag body room = tagCallOn body room ∷ []
-callsOf Reset body room = resetCall ∷ []
-callsOf Ced body room = askCall CED (getD body 0 0) ∷ []
-callsOf Timing body room = askCall TIMING (getD body 0 0) ∷ []
-callsOf Fresh body room = freshCall (getD body 0 0) (getD body 1 0) ∷ []
-callsOf Unknown body room = []
+-- what a record is on a room: a call, or a number without a call
+pub data Deed : Type 0 where
+  calls : Call → Deed
+  says : ℕ → Deed
 
 -- STORE 17.4: a kind byte that is unknown is 13
-abbrev pub answerOn : List Call → List ℕ → Answer
-answerOn [] room = refused 13
-answerOn (c ∷ l) room = answerTo c room
+abbrev pub unknownKind : ℕ
+unknownKind = 13
 
-abbrev pub partOn : List Call → List ℕ → List ℕ
-partOn [] room = []
-partOn (c ∷ l) room = partTo c room
+-- STORE 17.2: a record of each kind
+abbrev pub deedOf : Kind → List ℕ → List ℕ → Deed
+deedOf Word body room = calls (wordCall body)
+deedOf Tag body room = calls (tagCallOn body room)
+deedOf Reset body room = calls resetCall
+deedOf Ced body room = calls (askCall CED (getD body 0 0))
+deedOf Timing body room = calls (askCall TIMING (getD body 0 0))
+deedOf Fresh body room = calls (freshCall (getD body 0 0) (getD body 1 0))
+deedOf Unknown body room = says unknownKind
+
+abbrev pub callsIn : Deed → List Call
+callsIn (calls c) = c ∷ []
+callsIn (says k) = []
+
+abbrev pub answerOn : Deed → List ℕ → Answer
+answerOn (calls c) room = answerTo c room
+answerOn (says k) room = refused k
+
+abbrev pub partOn : Deed → List ℕ → List ℕ
+partOn (calls c) room = partTo c room
+partOn (says k) room = []
+
+abbrev pub callsOf : Kind → List ℕ → List ℕ → List Call
+callsOf kind body room = callsIn (deedOf kind body room)
 
 abbrev pub recordAnswer : Kind → List ℕ → List ℕ → Answer
-recordAnswer kind body room = answerOn (callsOf kind body room) room
+recordAnswer kind body room = answerOn (deedOf kind body room) room
 
 abbrev pub recordPart : Kind → List ℕ → List ℕ → List ℕ
-recordPart kind body room = partOn (callsOf kind body room) room
+recordPart kind body room = partOn (deedOf kind body room) room
 
 abbrev pub recordRoom : Kind → List ℕ → List ℕ → List ℕ
 recordRoom kind body room = run room (callsOf kind body room)

@@ -31,7 +31,7 @@ const WORD_AT: usize = 8;
 const WORD_END: usize = WORD_AT + WORD_BYTES;
 
 // bench only: unknown kind byte
-const UNKNOWN_KIND: u8 = 13;
+pub const UNKNOWN_KIND: u8 = 13;
 
 // The week and the time from a place of a body.
 fn time(body: &[u8], at: usize) -> Gst

@@ -3,6 +3,7 @@
 use borrow.Fn.Kinds.{resT, endedOf, Dens}
 use denote.Triple.Clauses.{AtExit}
 use contract.Lifetimes.{Lfts}
+use mathlib.Core.Bool.{false}
 use mathlib.Core.Path.{_≡_, sym, ap, _∙_}
 use Prim.Native.Nat.{ℕ}
 use lib.ListN.{length}
@@ -29,6 +30,12 @@ use Rattle.ffi.proofs.dawnstook_get_timing_parameters.Reads as get-timing
 use Rattle.ffi.proofs.dawnstook_get_timing_parameters.Kinds as get-timing-kinds
 use Rattle.ffi.proofs.dawnstook_reset_authbits.Reads as reset
 use Rattle.ffi.proofs.dawnstook_reset_authbits.Kinds as reset-kinds
+use Rattle.intake.proofs.part.Reads as read-part
+use Rattle.intake.proofs.end.Reads as read-end
+use Rattle.ffi.proofs.dawnstook_part.Reads as c-part
+use Rattle.ffi.proofs.dawnstook_part.Kinds as c-part-kinds
+use Rattle.ffi.proofs.dawnstook_end.Reads as c-end
+use Rattle.ffi.proofs.dawnstook_end.Kinds as c-end-kinds
 
 pub exported-fresh-is-step :
     (κs : Lfts 1)
@@ -135,3 +142,23 @@ pub exported-reset-authbits-is-step :
 exported-reset-authbits-is-step κs a r e p =
     let s = reset-step (a .0 .now) in
     (p .0 ∙ ap number (sym (s .0)), p .1 ∙ sym (s .1))
+
+-- a part and the end of an input: what the exports permit, `part` and `end` permit without the lines of `trace`, so that what is proved of
+-- an input that those read in parts holds of one that these read
+pub exported-part-is-part :
+    (κs : Lfts 4)
+    (a : Dens κs c-part-kinds.ps)
+    (r : resT c-part-kinds.r κs .Denot)
+    (e : AtExit (endedOf 4 c-part-kinds.ps c-part-kinds.r) κs)
+    → c-part.Post κs a r e
+    → read-part.Post κs (a .0, (a .1 .0, (a .1 .1 .0, (a .1 .1 .1 .0, (false, a .1 .1 .1 .1))))) r (e .0, (e .1 .0, (e .1 .1 .0, (e .1 .1 .1 .0, (false, e .1 .1 .1 .1)))))
+exported-part-is-part κs a r e p = p
+
+pub exported-end-is-end :
+    (κs : Lfts 3)
+    (a : Dens κs c-end-kinds.ps)
+    (r : resT c-end-kinds.r κs .Denot)
+    (e : AtExit (endedOf 3 c-end-kinds.ps c-end-kinds.r) κs)
+    → c-end.Post κs a r e
+    → read-end.Post κs (a .0, (a .1 .0, (a .1 .1 .0, (false, a .1 .1 .1)))) r (e .0, (e .1 .0, (e .1 .1 .0, (false, e .1 .1 .1))))
+exported-end-is-end κs a r e p = p

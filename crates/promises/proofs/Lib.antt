@@ -2,4 +2,5 @@ pub mod Answers
 pub mod Tight
 pub mod Joined
 pub mod Exports
+pub mod Input
 pub mod Ran

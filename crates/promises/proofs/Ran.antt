@@ -1,6 +1,6 @@
--- Demand 3 of the code that runs: any outcomes that the contracts of the calls permit, one call after the other from a fresh call that
--- was answered 0 on, each lent the room from its first byte as far as the caller likes, leave the room that the history gives, and so
--- every record in it was earned. Assumes nothing.
+-- Demand 3 of the code that runs: any outcomes that the contracts of the calls permit, parts of an input among them, one after the other
+-- from a fresh call that was answered 0 on, each lent the room from its first byte as far as the caller likes, leave the room that the
+-- history gives, and so every record in it was earned. Assumes nothing.
 use borrow.Fn.Kinds.{resT, endedOf, Dens}
 use denote.Triple.Clauses.{AtExit}
 use contract.Lifetimes.{Lfts}
@@ -9,7 +9,7 @@ use mathlib.Core.Path.{_≡_, refl, sym, ap, subst, _∙_}
 use mathlib.Core.List.{List, [], _∷_, _++_}
 use Prim.Native.Nat.{ℕ, _≤_}
 use lib.ListN.{length, take, drop, length-append, take-append-drop}
-use lib.Seq.{take-at, drop-at}
+use lib.Seq.{take-at, drop-at, length-take-le}
 use Rattle.paper.specs.Number.{number}
 use Rattle.paper.specs.Record.{Family}
 use Rattle.paper.specs.Room.{roomSize}
@@ -18,9 +18,9 @@ use Rattle.paper.specs.Call.{Call, freshCall, feedCall, tagCall, candidateCall,
 use Rattle.refusals.specs.declared.Reply.the-variants.{Done}
 use Rattle.refusals.specs.Reply.{replyAnswer}
 use Rattle.stays.specs.Lent.{onWhole}
-use Rattle.stays.proofs.Stays.{number-answer}
+use Rattle.stays.proofs.Stays.{number-answer, run-after}
 use Rattle.stays.proofs.Rooms.{fresh-allowed}
-use Rattle.stays.proofs.Untouched.{call-untouched}
+use Rattle.stays.proofs.Untouched.{call-untouched, run-length}
 use Rattle.stays.proofs.Slices.{same-answer, same-room, lent-room}
 use Rattle.history.specs.Line.{Place, Inside, at, tags}
 use Rattle.history.specs.Demand.{Earned}
@@ -28,6 +28,11 @@ use Rattle.history.proofs.Demand.{demand-3}
 use Rattle.history.proofs.Steps.{candidate-step, ask-step}
 use Rattle.promises.proofs.Joined.{fresh-is-step, feed-is-step, tag-is-step, reset-authbits-is-step}
 use Rattle.promises.proofs.Exports.{exported-fresh-is-step, exported-feed-is-step, exported-tag-is-step, exported-reset-authbits-is-step}
+use Rattle.intake.specs.Input.{itemsOf, roomOf, callsFrom}
+use Rattle.intake.specs.Reader.{stageIn}
+use Rattle.intake.proofs.Calls.{room-of-calls}
+use Rattle.intake.proofs.part.Reads as part
+use Rattle.intake.proofs.part.Kinds as part-kinds
 use Rattle.navmessage.proofs.fresh.Reads as fresh
 use Rattle.navmessage.proofs.fresh.Kinds as fresh-kinds
 use Rattle.navmessage.proofs.feed.Reads as feed
@@ -44,6 +49,8 @@ use Rattle.ffi.proofs.dawnstook_tag.Reads as c-tag
 use Rattle.ffi.proofs.dawnstook_tag.Kinds as c-tag-kinds
 use Rattle.ffi.proofs.dawnstook_reset_authbits.Reads as c-reset
 use Rattle.ffi.proofs.dawnstook_reset_authbits.Kinds as c-reset-kinds
+use Rattle.ffi.proofs.dawnstook_part.Reads as c-part
+use Rattle.ffi.proofs.dawnstook_part.Kinds as c-part-kinds
 
 -- ---- one call that ran
 -- lent the first k bytes of the room, it left these; those behind them are as they were
@@ -121,16 +128,72 @@ did-is-step call k before after (candidateDid sat kind cop w t c h x) =
     idle call k before after (λ room. rw (← c) (candidate-step sat kind cop w t room .2)) h x
 did-is-step call k before after (askDid f sat c h x) = idle call k before after (λ room. rw (← c) (ask-step f sat room .2)) h x
 
+-- ---- a part of an input that ran: by `part` or by its export, from any state of a reader
+pub data Heard (reader piece : List ℕ) (k : ℕ) (before after : List ℕ) : Type 1 where
+  partHeard : (κs : Lfts 4) (a : Dens κs part-kinds.ps) (r : resT part-kinds.r κs .Denot) (e : AtExit (endedOf 4 part-kinds.ps part-kinds.r) κs)
+      → part.Post κs a r e
+      → a .0 .now ≡ reader → take (r .took) (a .1 .1 .0 .now) ≡ piece
+      → Lent k before after (a .1 .0 .now) (e .1 .0 .now) → Heard reader piece k before after
+  cPartHeard : (κs : Lfts 4) (a : Dens κs c-part-kinds.ps) (r : resT c-part-kinds.r κs .Denot) (e : AtExit (endedOf 4 c-part-kinds.ps c-part-kinds.r) κs)
+      → c-part.Post κs a r e
+      → a .0 .now ≡ reader → take (r .took) (a .1 .1 .0 .now) ≡ piece
+      → Lent k before after (a .1 .0 .now) (e .1 .0 .now) → Heard reader piece k before after
+
+-- calls that are lent the first k bytes of a room, as the whole room sees them
+abbrev pub wholes : ℕ → List ℕ → List Call → List Call
+wholes k room [] = []
+wholes k room (c ∷ before) = onWhole k c (run room (wholes k room before)) ∷ wholes k room before
+
+wholes-run : (k : ℕ) (room : List ℕ) → k ≤ length room → (calls : List Call)
+    → run (take k room) calls ++ drop k room ≡ run room (wholes k room calls)
+unfolding run
+wholes-run k room h [] = take-append-drop k room
+wholes-run k room h (c ∷ before) =
+    let front : List ℕ = run (take k room) before in
+    let whole : List ℕ = run room (wholes k room before) in
+    let size : length front ≡ k = run-length before (take k room) ∙ length-take-le k room h in
+    let is : front ++ drop k room ≡ whole = wholes-run k room h before in
+    let fits : k ≤ length whole = rw (run-length (wholes k room before) room) h in
+    let first : take k whole ≡ front = ap (take k) (sym is) ∙ take-at front (drop k room) k size in
+    let past : drop k whole ≡ drop k room = ap (drop k) (sym is) ∙ drop-at front (drop k room) k size in
+    ap (λ (x : List ℕ). roomAfter c x ++ drop k room) (sym first)
+    ∙ ap (λ (x : List ℕ). roomAfter c (take k whole) ++ x) (sym past)
+    ∙ lent-room k whole fits c
+
+-- the calls of its records, on the bytes that it is lent
+abbrev pub callsHeard : List ℕ → List ℕ → List ℕ → List Call
+callsHeard reader piece room = callsFrom room [] (itemsOf (stageIn reader) piece)
+
+heard-step : (reader piece : List ℕ) (k : ℕ) (before after lent left : List ℕ) → left ≡ roomOf lent (itemsOf (stageIn reader) piece)
+    → Lent k before after lent left → after ≡ run before (wholes k before (callsHeard reader piece (take k before)))
+unfolding run
+heard-step reader piece k before after lent left e L =
+    L .whole
+    ∙ ap (λ (x : List ℕ). x ++ drop k before)
+    (e ∙ ap (λ (x : List ℕ). roomOf x (itemsOf (stageIn reader) piece)) (L .first) ∙ room-of-calls (take k before) [] (itemsOf (stageIn reader) piece))
+    ∙ wholes-run k before (L .inside) (callsHeard reader piece (take k before))
+
+pub heard-is-run : (reader piece : List ℕ) (k : ℕ) (before after : List ℕ) → Heard reader piece k before after
+    → after ≡ run before (wholes k before (callsHeard reader piece (take k before)))
+heard-is-run reader piece k before after (partHeard κs a r e p s q l) =
+    heard-step reader piece k before after (a .1 .0 .now) (e .1 .0 .now) (rw (← s, ← q) (p .0 .leaves)) l
+heard-is-run reader piece k before after (cPartHeard κs a r e p s q l) =
+    heard-step reader piece k before after (a .1 .0 .now) (e .1 .0 .now) (rw (← s, ← q) (p .0 .leaves)) l
+
 -- ---- calls that ran one after the other
--- a call, and how many bytes of the room it was lent
-pub record Made : Type 0 where
-  pub call : Call
-  pub lent : ℕ
+-- a call, or what was taken of a part from a reader's state, and how many bytes of the room it was lent
+pub data Made : Type 0 where
+  called : Call → ℕ → Made
+  heard : List ℕ → List ℕ → ℕ → Made
+
+abbrev pub Doing : Made → List ℕ → List ℕ → Type 1
+Doing (called call k) before after = Did call k before after
+Doing (heard reader piece k) before after = Heard reader piece k before after
 
 pub record Next (Before : List ℕ → Type 1) (made : Made) (now : List ℕ) : Type 1 where
   pub room : List ℕ
   pub ran : Before room
-  pub did : Did (made .call) (made .lent) room now
+  pub did : Doing made room now
 
 pub record Begun (start now : List ℕ) : Type 1 where
   pub same : now ≡ start
@@ -141,17 +204,27 @@ Ran start [] now = Begun start now
 Ran start (made ∷ before) now = Next (Ran start before) made now
 
 -- the calls of the history: those that ran, as the whole room sees them
+abbrev pub steps : Made → List ℕ → List Call
+steps (called call k) room = onWhole k call room ∷ []
+steps (heard reader piece k) room = wholes k room (callsHeard reader piece (take k room))
+
 abbrev pub history : List ℕ → List Made → List Call
 history start [] = []
-history start (made ∷ before) =
-    onWhole (made .lent) (made .call) (run start (history start before)) ∷ history start before
+history start (made ∷ before) = steps made (run start (history start before)) ++ history start before
+
+doing-is-run : (made : Made) (before after : List ℕ) → Doing made before after → after ≡ run before (steps made before)
+unfolding run
+doing-is-run (called call k) before after did = did-is-step call k before after did
+doing-is-run (heard reader piece k) before after did = heard-is-run reader piece k before after did
 
 pub ran-is-run : (start : List ℕ) (calls : List Made) (now : List ℕ) → Ran start calls now → now ≡ run start (history start calls)
 unfolding run
 ran-is-run start [] now ran = ran .same
 ran-is-run start (made ∷ before) now ran =
-    did-is-step (made .call) (made .lent) (ran .room) now (ran .did)
-    ∙ ap (λ (room : List ℕ). roomAfter (onWhole (made .lent) (made .call) room) room) (ran-is-run start before (ran .room) (ran .ran))
+    let room : List ℕ = run start (history start before) in
+    doing-is-run made (ran .room) now (ran .did)
+    ∙ ap (λ (x : List ℕ). run x (steps made x)) (ran-is-run start before (ran .room) (ran .ran))
+    ∙ sym (run-after start (steps made room) (history start before))
 
 -- ---- the fresh call that ran, and was answered 0: the room that it left, with the bytes behind what it was lent
 pub data Began (start : List ℕ) : Type 1 where

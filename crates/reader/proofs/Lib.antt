@@ -1,4 +1,3 @@
 -- The laws of `reader`.
-pub mod Heard
-pub mod Output
+pub mod Offered
 pub mod Determined

@@ -1,0 +1,10 @@
+-- The laws of `intake`.
+pub mod Along
+pub mod Byte
+pub mod Parts
+pub mod Taken
+pub mod State
+pub mod Calls
+pub mod Whole
+pub mod Determined
+pub mod Asks

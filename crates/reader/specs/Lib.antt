@@ -1,2 +1,0 @@
--- What the contracts of `reader` cite.
-pub mod Reader
