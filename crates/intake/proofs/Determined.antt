@@ -7,11 +7,12 @@ use lib.ListN.{take}
 use borrow.Fn.Kinds.{resT, endedOf, Dens}
 use denote.Triple.Clauses.{AtExit}
 use contract.Lifetimes.{Lfts}
+use Rattle.text.specs.Text.{Put}
 use Rattle.text.proofs.Puts.{put-one}
 use Rattle.intake.specs.declared.Heard.{Heard}
 use Rattle.intake.specs.declared.Closed.{Closed}
-use Rattle.intake.specs.Input.{Stage, stageOf, itemsOf, roomOf, linesOf}
-use Rattle.intake.specs.Reader.{stageIn, readerOf, numberOf}
+use Rattle.intake.specs.Input.{Stage, stageOf, itemsOf, roomOf}
+use Rattle.intake.specs.Reader.{readerOf, numberOf, Took}
 use Rattle.intake.proofs.part.Reads as part-reads
 use Rattle.intake.proofs.part.Kinds as part-kinds
 use Rattle.intake.proofs.end.Reads as end-reads
@@ -29,6 +30,21 @@ closed-one r r' e f g =
     ∙ ap (λ (b : Bool). record { number = r' .number; taken = b; said = r .said }) f
     ∙ ap (λ (k : ℕ). record { number = r' .number; taken = r' .taken; said = k }) g
 
+-- two outcomes of a part
+pub part-one :
+    {traced : Bool} {s : Stage} {bytes room out room' room'' out' out'' reader' reader'' : List ℕ} (r r' : Heard)
+    → Took traced s bytes room out room' out' (r .took) (r .said) → Took traced s bytes room out room'' out'' (r' .took) (r' .said)
+    → reader' ≡ readerOf (stageOf s (take (r .took) bytes)) → reader'' ≡ readerOf (stageOf s (take (r' .took) bytes))
+    → r .number ≡ numberOf (stageOf s (take (r .took) bytes)) → r' .number ≡ numberOf (stageOf s (take (r' .took) bytes))
+    → (r ≡ r') × ((reader' ≡ reader'') × ((room' ≡ room'') × (out' ≡ out'')))
+part-one {traced} {s} {bytes} {room} r r' p q pr qr pn qn =
+    let t : r .took ≡ r' .took = p .count ∙ sym (q .count) in
+    let lines = put-one (rw t at (p .lines)) (q .lines) in (
+      heard-one r r' (pn ∙ ap (λ (k : ℕ). numberOf (stageOf s (take k bytes))) t ∙ sym qn) t (lines .1),
+      (pr ∙ ap (λ (k : ℕ). readerOf (stageOf s (take k bytes))) t ∙ sym qr,
+        (p .leaves ∙ ap (λ (k : ℕ). roomOf room (itemsOf s (take k bytes))) t ∙ sym (q .leaves), lines .0)),
+    )
+
 pub part-determined :
     (κs : Lfts 4)
     (a : Dens κs part-kinds.ps)
@@ -36,18 +52,18 @@ pub part-determined :
     (e e' : AtExit (endedOf 4 part-kinds.ps part-kinds.r) κs)
     → part-reads.Post κs a r e → part-reads.Post κs a r' e'
     → (r ≡ r') × ((e .0 .now ≡ e' .0 .now) × ((e .1 .0 .now ≡ e' .1 .0 .now) × (e .1 .1 .1 .0 .now ≡ e' .1 .1 .1 .0 .now)))
-part-determined κs a r r' e e' p q =
-    let t : r .took ≡ r' .took = p .0 .count ∙ sym (q .0 .count) in
-    let s : Stage = stageIn (a .0 .now) in
-    let bytes : List ℕ = a .1 .1 .0 .now in
-    let lines = put-one (rw t at (p .0 .lines)) (q .0 .lines) in
-    let number = p .1 .1 ∙ ap (λ (k : ℕ). numberOf (stageOf s (take k bytes))) t ∙ sym (q .1 .1) in (
-      heard-one r r' number t (lines .1),
-      (
-        p .1 .0 ∙ ap (λ (k : ℕ). readerOf (stageOf s (take k bytes))) t ∙ sym (q .1 .0),
-        (p .0 .leaves ∙ ap (λ (k : ℕ). roomOf (a .1 .0 .now) (itemsOf s (take k bytes))) t ∙ sym (q .0 .leaves), lines .0),
-      ),
-    )
+part-determined κs a r r' e e' p q = part-one r r' (p .0) (q .0) (p .1 .0) (q .1 .0) (p .1 .1) (q .1 .1)
+
+-- two outcomes of the end
+pub end-one :
+    {number : ℕ} {taken : Bool} {lines out out' out'' reader reader' reader'' : List ℕ} (r r' : Closed)
+    → reader' ≡ reader → reader'' ≡ reader
+    → (r .number ≡ number) × (r .taken ≡ taken) → (r' .number ≡ number) × (r' .taken ≡ taken)
+    → Put out 0 lines out' (r .said) → Put out 0 lines out'' (r' .said)
+    → (r ≡ r') × ((reader' ≡ reader'') × (out' ≡ out''))
+end-one r r' pr qr pn qn pl ql =
+    let lines = put-one pl ql in
+    (closed-one r r' (pn .0 ∙ sym (qn .0)) (pn .1 ∙ sym (qn .1)) (lines .1), (pr ∙ sym qr, lines .0))
 
 pub end-determined :
     (κs : Lfts 3)
@@ -56,8 +72,4 @@ pub end-determined :
     (e e' : AtExit (endedOf 3 end-kinds.ps end-kinds.r) κs)
     → end-reads.Post κs a r e → end-reads.Post κs a r' e'
     → (r ≡ r') × ((e .0 .now ≡ e' .0 .now) × (e .1 .1 .0 .now ≡ e' .1 .1 .0 .now))
-end-determined κs a r r' e e' p q =
-    let lines = put-one (p .1 .1) (q .1 .1) in (
-      closed-one r r' (p .1 .0 .0 ∙ sym (q .1 .0 .0)) (p .1 .0 .1 ∙ sym (q .1 .0 .1)) (lines .1),
-      (p .0 ∙ sym (q .0), lines .0),
-    )
+end-determined κs a r r' e e' p q = end-one r r' (p .0) (q .0) (p .1 .0) (q .1 .0) (p .1 .1) (q .1 .1)

@@ -311,11 +311,12 @@ pub fn end(reader: &mut [u8; READER], room: &[u8], out: &mut [u8], traced: bool)
         (linesOf traced (now (room .entry)) (itemsEnded traced (now (out .entry)) (stageIn (now (reader .entry)))))
         (now (out .exit)) (r .said) ⌝ }
 {
-    if reader[ENDED_AT] != 0 {
-        let number = reader[NUMBER_AT];
-        keep(reader, 0, 1, number);
+    let ended = reader[ENDED_AT];
+    if ended != 0 {
+        let before = reader[NUMBER_AT];
+        keep(reader, 0, 1, before);
         return Closed {
-            number,
+            number: before,
             taken: true,
             said: 0,
         };

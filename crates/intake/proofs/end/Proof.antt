@@ -16,11 +16,11 @@ use borrow.Author.Needs.{needs}
 use Rattle.intake.proofs.end.Statement.{statement}
 use Rattle.intake.proofs.end.Tie as tie
 
-element-copy-out-if1 : tie.Need-element-copy-out-if1
-element-copy-out-if1 c = search needs
+element-copy-out-ended : tie.Need-element-copy-out-ended
+element-copy-out-ended c = search needs
 
-element-copy-out-number : tie.Need-element-copy-out-number
-element-copy-out-number c = search needs
+element-copy-out-before : tie.Need-element-copy-out-before
+element-copy-out-before c = search needs
 
 keep-requires : tie.Need-keep-requires
 keep-requires c κs = search needs
@@ -98,8 +98,8 @@ pub end-spec : {M : Type 1} → statement M
 end-spec =
     tie.close
     (tie.spec
-    element-copy-out-if1
-    element-copy-out-number
+    element-copy-out-ended
+    element-copy-out-before
     keep-requires
     returns
     kept-in-requires
