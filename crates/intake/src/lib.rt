@@ -57,7 +57,7 @@ struct Step {
     have: usize,
     said: usize,
     full: bool,
-    stopped: bool,
+    ended: bool,
 }
 
 // After bytes: how many are kept, written and taken, and whether the input has ended.
@@ -154,7 +154,7 @@ fn take_byte(
 ) -> Step
     requires { ⌜ (Keeps (now kept) have) × (at ≤ length (now out)) ⌝ }
     ensures { λ r. ⌜ Stepped traced (going (take have (now (kept .entry)))) byte (now (room .entry)) (now (out .entry)) at
-        (standing (now (kept .exit)) (r .have) (r .stopped)) (now (room .exit)) (now (out .exit)) (r .said) (r .full) ⌝ }
+        (standing (now (kept .exit)) (r .have) (r .ended)) (now (room .exit)) (now (out .exit)) (r .said) (r .full) ⌝ }
     ensures { λ r. ⌜ Keeps (now (kept .exit)) (r .have) ⌝ }
 {
     kept[have] = byte;
@@ -165,7 +165,7 @@ fn take_byte(
             have: end,
             said: at,
             full: false,
-            stopped: false,
+            ended: false,
         };
     }
     if out.len() - at < most(traced) {
@@ -173,7 +173,7 @@ fn take_byte(
             have,
             said: at,
             full: true,
-            stopped: false,
+            ended: false,
         };
     }
     let said = put_record(room, kind, &kept[1..end], out, at, traced);
@@ -181,7 +181,7 @@ fn take_byte(
         have: 0,
         said,
         full: false,
-        stopped: ends(kind),
+        ended: ends(kind),
     }
 }
 
@@ -211,15 +211,15 @@ fn take_bytes(
                 have: step.have,
                 said: step.said,
                 took: i,
-                stopped: step.stopped,
+                stopped: step.ended,
             };
         }
-        if step.stopped {
+        if step.ended {
             return Progress {
                 have: step.have,
                 said: step.said,
                 took: bytes.len(),
-                stopped: step.stopped,
+                stopped: step.ended,
             };
         }
         count = step.have;
