@@ -41,8 +41,10 @@ part-one {traced} {s} {bytes} {room} r r' p q pr qr pn qn =
     let t : r .took ≡ r' .took = p .count ∙ sym (q .count) in
     let lines = put-one (rw t at (p .lines)) (q .lines) in (
       heard-one r r' (pn ∙ ap (λ (k : ℕ). numberOf (stageOf s (take k bytes))) t ∙ sym qn) t (lines .1),
-      (pr ∙ ap (λ (k : ℕ). readerOf (stageOf s (take k bytes))) t ∙ sym qr,
-        (p .leaves ∙ ap (λ (k : ℕ). roomOf room (itemsOf s (take k bytes))) t ∙ sym (q .leaves), lines .0)),
+      (
+        pr ∙ ap (λ (k : ℕ). readerOf (stageOf s (take k bytes))) t ∙ sym qr,
+        (p .leaves ∙ ap (λ (k : ℕ). roomOf room (itemsOf s (take k bytes))) t ∙ sym (q .leaves), lines .0),
+      ),
     )
 
 pub part-determined :

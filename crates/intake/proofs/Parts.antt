@@ -51,7 +51,7 @@ module _ (traced : Bool) (s : Stage) (bytes room out : List ℕ) (i : ℕ) (s' :
         rest = before .rest ∙ ap (λ (k : ℕ). i + k) (later) ∙ omega arith;
         stands = t .stands ∙ ap (λ (x : Stage). stageAfter x b) (before .stands) ∙ sym (stages-one s (take i bytes) b) ∙ ap (stageOf s) front;
         leaves = t .leaves ∙ ap (λ (x : Stage). roomOf room' (itemsWith x b)) (before .stands) ∙ there ∙ ap (λ (l : List ℕ). roomOf room (itemsOf s l)) front;
-        lines = rw (← front, items-one s (take i bytes) b, texts traced room (itemsOf s (take i bytes)) (itemsWith (stageOf s (take i bytes)) b), ← (before .leaves), ← (before .stands)) (put-then (before .lines) (t .lines));
+        lines = rw (← front, printed) (put-then (before .lines) (t .lines));
       }
     where
       b : ℕ
@@ -59,6 +59,12 @@ module _ (traced : Bool) (s : Stage) (bytes room out : List ℕ) (i : ℕ) (s' :
 
       front : take i bytes ++ (b ∷ []) ≡ take (i + 1) bytes
       front = rw (add-one i) (sym (take-suc bytes i 0 h))
+
+      printed : linesOf traced room (itemsOf s (take i bytes ++ (b ∷ []))) ≡ linesOf traced room (itemsOf s (take i bytes)) ++ linesOf traced room' (itemsWith s' b)
+      printed =
+          ap (linesOf traced room) (items-one s (take i bytes) b)
+          ∙ texts traced room (itemsOf s (take i bytes)) (itemsWith (stageOf s (take i bytes)) b)
+          ∙ rw (before .leaves, before .stands) refl
 
       there : roomOf room' (itemsWith (stageOf s (take i bytes)) b) ≡ roomOf room (itemsOf s (take i bytes ++ (b ∷ [])))
       there =
