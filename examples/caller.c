@@ -330,6 +330,10 @@ static void stacks(void) {
     within(on_timing, DAWNSTOOK_NOT_ENOUGH, "asking timing");
     within(on_reset, DAWNSTOOK_DONE, "reset");
     within(on_times, DAWNSTOOK_DONE, "times");
+    fprintf(stderr, "caller: the deepest call needed %zu bytes of stack\n", stack_most);
+    need(stack_most <= DAWNSTOOK_STACK_BYTES, "the stack is enough");
+    printf("no call needed more than %d bytes of stack\n", DAWNSTOOK_STACK_BYTES);
+    stack_most = 0;
     for (int row = 0; row < 2; row++) {
         stack_time += DAWNSTOOK_SUBFRAME_SECONDS;
         for (uint8_t type = 0; type < 64; type++) record_within(put_word(stack_record, type, stack_time), DAWNSTOOK_DONE, "w 0\n");
@@ -349,9 +353,9 @@ static void stacks(void) {
     memset(stack_reader, 0, sizeof stack_reader);
     stack_record[0] = 0;
     record_within(1, DAWNSTOOK_UNKNOWN_KIND, "x 13\n");
-    fprintf(stderr, "caller: the deepest call needed %zu bytes of stack\n", stack_most);
-    need(stack_most <= DAWNSTOOK_STACK_BYTES, "the stack is enough");
-    printf("no call needed more than %d bytes of stack\n", DAWNSTOOK_STACK_BYTES);
+    fprintf(stderr, "caller: the deepest part needed %zu bytes of stack\n", stack_most);
+    need(stack_most <= DAWNSTOOK_READER_STACK_BYTES, "the stack is enough for a reader");
+    printf("no part and no end needed more than %d bytes of stack\n", DAWNSTOOK_READER_STACK_BYTES);
 }
 
 int main(void) {

@@ -220,10 +220,11 @@ def tag_lengths(text, pattern):
     return [int(n) for n in re.search(pattern, text).group(1).replace(" ", "").split(",")]
 
 
-def deepest_stack():
-    """The largest number of the table of docs/SPEED.md."""
+def deepest_stacks():
+    """Of the table of docs/SPEED.md: the largest number of the calls, and that of a reader's."""
     rows = re.search(r"\| stack of a call.*?(?=\| code and constants)", read("docs/SPEED.md"), re.S).group(0)
-    return max(int(n) for n in re.findall(r"\| (\d+) \|$", rows, re.M))
+    calls, reader = rows.split("| a part of an input", 1)
+    return [max(int(n) for n in re.findall(r"\| (\d+) \|$", part, re.M)) for part in (calls, reader)]
 
 
 def behind(tokens, i):
@@ -338,7 +339,7 @@ def constants(held, header):
     expected = {n: constant_of(*at, code) for n, at in CONSTANTS.items()}
     limits = code_of("limits")
     expected["MOST_COP"] = int(re.search(r"\bcop <= (\d+)", limits).group(1))
-    expected["STACK_BYTES"] = deepest_stack()
+    expected["STACK_BYTES"], expected["READER_STACK_BYTES"] = deepest_stacks()
     of_c, rust = constants_of_header(header), without_comments(read(RUST + "limits.rs"))
     held.same(f"{HEADER}: constants", {n: v for n, v in of_c.items() if not n.startswith("VERSION_")}, expected)
     held.same(f"{RUST}limits.rs: constants", constants_of_rust(rust), expected)

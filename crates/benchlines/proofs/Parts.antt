@@ -1,16 +1,19 @@
--- The part of the room that a record's call hands out: it is short, and still there after the call. Assumes nothing.
+-- The part of the room that a record's call hands out: it is short, still there after the call, and copied whole. Assumes nothing.
 use native.Mathlib.Omega.{arith}
-use mathlib.Core.Path.{_≡_, refl}
+use mathlib.Core.Path.{_≡_, refl, ap, _∙_}
 use mathlib.Core.Bool.{Bool, true, false, cond}
 use mathlib.Core.List.{List, []}
 use Prim.Native.Nat.{ℕ, _≤_}
-use lib.ListN.{length, getD, length-take}
+use lib.ListN.{length, getD, take, length-take}
+use lib.Seq.{take-all}
 use lib.Dec.{eqb}
 use Rattle.paper.specs.Record.{Family, CED, Timing as TIMING, dataBytes, dataOf}
 use Rattle.paper.specs.Answer.{partFor, candidateNumber, candidateData, askNumber, askData}
 use Rattle.paper.specs.Tag.{familyOf, candidateRecord}
 use Rattle.paper.specs.Ask.{answeringRecord}
 use Rattle.paper.specs.Call.{partTo, roomAfter, run}
+use Rattle.text.specs.Text.{Put}
+use Rattle.text.proofs.Puts.{length-putText, take-put}
 use Rattle.lines.specs.declared.Kind.{Kind}
 use Rattle.lines.specs.declared.Kind.the-variants.{Word, Tag, Reset, Ced, Timing, Fresh, Unknown}
 use Rattle.benchlines.specs.Records.{wordCall, tagCallOn, recordPart, recordRoom}
@@ -57,3 +60,14 @@ part-after Ced body room = refl
 part-after Timing body room = refl
 part-after Fresh body room = refl
 part-after Unknown body room = refl
+
+-- bytes put to the start, and the first k bytes of k
+pub copied-whole : {s d s' : List ℕ} {r : ℕ} → Put s 0 d s' r → (take r s' ≡ d) × (r ≤ length s')
+copied-whole {s} {d} {s'} {r} p =
+    let size : length s' ≡ length s = ap length (p .bytes) ∙ length-putText s 0 d (p .fits) in
+    (take-put p, omega (arith, size, p .place, p .fits))
+
+pub copied-all : {s d s' : List ℕ} {k r : ℕ} → length d ≡ k → Put s 0 (take k d) s' r → (take r s' ≡ d) × (r ≤ length s')
+copied-all {s} {d} {s'} {k} {r} e p =
+    let put = copied-whole p in
+    (put .0 ∙ take-all k d (omega arith), put .1)

@@ -7,9 +7,11 @@ use lines::Kind;
 use lines::Outcome;
 use navmessage::Asked;
 use records::Ced;
+use records::Timing;
 use refusals::Reply;
 use svn::Svn;
 use tags::Tagged;
+use text::put_bytes;
 ghost use mathlib.Core.Path.{_≡_};
 ghost use Prim.Native.Nat.{_+_, _≤_};
 ghost use lib.ListN.{length, getD, take};
@@ -83,6 +85,21 @@ fn word(room: &mut [u8], body: &[u8]) -> Outcome
     replied(navmessage::feed(room, &body[WORD_AT..WORD_END], Svn(body[0]), gst, body[1]))
 }
 
+// The data of either family, or none, to the start of `given`: how many bytes. Each length by itself: a copy of a length that is not known
+// would be made a call of C's library by the compiler, and the archive asks for none.
+fn copied(given: &mut [u8], data: &[u8]) -> usize
+    requires { ⌜ length (now «data») ≤ length (now given) ⌝ }
+    ensures { λ r. ⌜ (take r (now (given .exit)) ≡ now («data» .entry)) × (r ≤ length (now (given .exit))) ⌝ }
+{
+    if data.len() == Timing::BYTES {
+        return put_bytes(given, 0, &data[..Timing::BYTES]);
+    }
+    if data.len() == Ced::BYTES {
+        return put_bytes(given, 0, &data[..Ced::BYTES]);
+    }
+    put_bytes(given, 0, data)
+}
+
 // The data of a tag's candidate, copied: a tag is lent the room it lies in. How many bytes there are comes back.
 fn candidate(room: &[u8], body: &[u8], given: &mut [u8]) -> usize
     requires { ⌜ (length (now body) ≡ bodyLength Tag) × (length (now given) ≡ dataBytes CED) ⌝ }
@@ -90,9 +107,8 @@ fn candidate(room: &[u8], body: &[u8], given: &mut [u8]) -> usize
         × (r ≤ length (now (given .exit))) ⌝ }
 {
     let gst = time(body, 6);
-    text::put_bytes(
+    copied(
         given,
-        0,
         navmessage::candidate_data(room, Svn(body[0]), body[1], body[2], gst),
     )
 }

@@ -1,4 +1,4 @@
--- Stages, records, rooms and lines of bytes one behind the other: of two pieces of an input they are those of the whole. Behind the end of
+-- Stages, records, rooms, lines and answers of bytes one behind the other: of two pieces of an input they are those of the whole. Behind the end of
 -- an input nothing is heard. Assumes nothing.
 use native.Mathlib.Omega.{arith}
 use mathlib.Core.Path.{_≡_, refl, sym, ap, _∙_}
@@ -6,7 +6,8 @@ use mathlib.Core.Bool.{Bool, true, false, cond}
 use mathlib.Core.List.{List, [], _∷_, _++_, append-assoc, append-nil}
 use Prim.Native.Nat.{ℕ, suc, _+_}
 use lib.ListN.{length}
-use Rattle.intake.specs.Input.{Item, Stage, ended, stageAfter, itemsWith, stageOf, itemsOf, itemRoom, linesFor, roomOf, linesOf}
+use Rattle.paper.specs.Number.{Answer}
+use Rattle.intake.specs.Input.{Item, Stage, ended, stageAfter, itemsWith, stageOf, itemsOf, itemRoom, itemAnswer, linesFor, roomOf, linesOf, answersOf}
 use Rattle.intake.specs.Reader.{taken}
 
 -- ---- two pieces
@@ -33,6 +34,11 @@ texts traced room [] b = refl
 texts traced room (i ∷ a) b =
     ap (λ (l : List ℕ). linesFor traced i room ++ l) (texts traced (itemRoom i room) a b)
     ∙ sym (append-assoc (linesFor traced i room) (linesOf traced (itemRoom i room) a) (linesOf traced (roomOf (itemRoom i room) a) b))
+
+pub answers : (room : List ℕ) (a b : List Item) → answersOf room (a ++ b) ≡ answersOf room a ++ answersOf (roomOf room a) b
+unfolding answersOf roomOf
+answers room [] b = refl
+answers room (i ∷ a) b = ap (λ (l : List Answer). itemAnswer i room ∷ l) (answers (itemRoom i room) a b)
 
 -- ---- a byte behind others
 pub stages-one : (s : Stage) (a : List ℕ) (b : ℕ) → stageOf s (a ++ (b ∷ [])) ≡ stageAfter (stageOf s a) b

@@ -4,11 +4,12 @@ use mathlib.Core.Path.{_≡_, refl, sym, ap, _∙_}
 use mathlib.Core.Bool.{Bool, true, false, cond}
 use mathlib.Core.List.{List, [], _∷_, _++_, append-assoc, append-nil}
 use Prim.Native.Nat.{ℕ, zero, suc, _+_, _-_, _≤_, _<_}
-use lib.ListN.{length, getD, take, drop, replicate, length-append, length-take, length-replicate, drop-of-length-le}
-use lib.Seq.{take-at, length-take-le, getD-take, getD-append-add}
+use lib.ListN.{length, getD, take, set, replicate, length-append, length-take, length-replicate, replicate-append-replicate, drop-of-length-le}
+use lib.Seq.{take-at, length-take-le, getD-take, getD-append-add, set-getD}
 use lib.Dec.{eqb, ltb}
-use borrow.Author.Tests.{lt-ltb, le-ltb, ltb-true, eq-eqb, ne-eqb}
+use borrow.Author.Tests.{lt-ltb, le-ltb, ltb-true, ltb-false, eq-eqb, ne-eqb}
 use Rattle.text.specs.Text.{putText}
+use Rattle.text.proofs.Puts.{length-putText, putText-one, putText-then}
 use Rattle.lines.specs.declared.Kind.{Kind}
 use Rattle.lines.specs.declared.Kind.the-variants.{Word, Tag, Reset, Ced, Timing, Fresh, Unknown}
 use Rattle.lines.specs.Kinds.{kindOf, bodyLength, longestRecord}
@@ -133,8 +134,33 @@ module _ (reader : List ℕ) (have : ℕ) (long : length reader ≡ readerBytes)
           rw (le-ltb (length (take have reader)) (1 + bodyLength (kindOf (getD (take have reader) 0 0)))
           (rw (length-take have reader, kept-byte k e) (omega (arith, body-within (kindOf (getD reader 0 0)))))) refl
 
--- the first of many zeros
-pub zeros-short : (n m : ℕ) → n ≤ m → take {A = ℕ} n (replicate m 0) ≡ replicate n 0
-zeros-short zero m h = refl
-zeros-short (suc n) zero h = absurd (omega arith)
-zeros-short (suc n) (suc m) h = ap (λ (l : List ℕ). 0 ∷ l) (zeros-short n m (omega arith))
+-- a turn of the loop that clears what is not kept: the byte stays, or is one more zero
+pub cleared-turn :
+    (reader₀ reader : List ℕ) (have i : ℕ) → length reader₀ ≡ readerBytes → have < longestRecord → i < longestRecord
+    → reader ≡ putText reader₀ have (replicate (i - have) 0)
+    → set reader i (cond (ltb i have) (getD reader i 0) 0) ≡ putText reader₀ have (replicate (i + 1 - have) 0)
+cleared-turn reader₀ reader have i long h below e = go (ltb i have) refl
+  where
+    zeros : List ℕ
+    zeros = replicate (i - have) 0
+
+    size : length zeros ≡ i - have
+    size = length-replicate {A = ℕ} (i - have) 0
+
+    go : (b : Bool) → ltb i have ≡ b → set reader i (cond b (getD reader i 0) 0) ≡ putText reader₀ have (replicate (i + 1 - have) 0)
+    go true t =
+        let less = ltb-true i have t in
+        let none : i + 1 - have ≡ i - have = omega arith in
+        set-getD reader i 0 ∙ rw none e
+    go false t =
+        let past = ltb-false i have t in
+        let one : i + 1 - have ≡ i - have + 1 = omega arith in
+        let place : i ≡ have + length zeros = omega (arith, size) in
+        let more : zeros ++ (0 ∷ []) ≡ replicate (i - have + 1) 0 = replicate-append-replicate (i - have) 1 0 in
+        let fits : have + length zeros < length (putText reader₀ have zeros) =
+        rw (length-putText reader₀ have zeros (omega (arith, size, long))) (omega (arith, size, long)) in
+        ap (λ (l : List ℕ). set l i 0) e
+        ∙ ap (λ (k : ℕ). set (putText reader₀ have zeros) k 0) place
+        ∙ putText-one (putText reader₀ have zeros) (have + length zeros) 0 fits
+        ∙ putText-then reader₀ have zeros (0 ∷ []) (omega (arith, size, long))
+        ∙ rw (more, one) refl

@@ -12,6 +12,7 @@ ghost use mathlib.Core.Path.{_≡_};
 ghost use mathlib.Core.Bool.{cond};
 ghost use mathlib.Core.List.{List, []};
 ghost use Prim.Native.Nat.{_+_, _≤_, _<_};
+ghost use lib.Dec.{ltb};
 ghost use lib.ListN.{length, getD, take};
 ghost use Rattle.text.specs.Text.{Put};
 ghost use Rattle.lines.specs.Kinds.{kindOf, bodyLength, longestRecord};
@@ -247,16 +248,28 @@ fn kept_in(reader: &[u8]) -> usize
     have
 }
 
-// The state with its first bytes kept, and nothing else of what it held.
+fn kept_byte(byte: u8, i: usize, have: usize) -> u8
+    ensures { λ r. ⌜ r ≡ cond (ltb i have) byte 0 ⌝ }
+{
+    if i < have {
+        return byte;
+    }
+    0
+}
+
+// The state with its first bytes kept, and nothing else of what it held. The loop goes over all bytes: one over those that are cleared
+// would be made a call of C's library by the compiler, and the archive asks for none.
 fn keep(reader: &mut [u8], have: usize, end: u8, number: u8)
     requires { ⌜ (length (now reader) ≡ readerBytes) × (have < longestRecord) ⌝ }
     ensures { λ _. ⌜ now (reader .exit) ≡ stateOf (take have (now (reader .entry))) end number ⌝ }
 {
-    let zeros = [0u8; LONGEST_RECORD];
-    let left = LONGEST_RECORD - have;
-    let cleared = put_bytes(reader, have, &zeros[..left]);
+    let mut i = 0;
+    while i < LONGEST_RECORD {
+        reader[i] = kept_byte(reader[i], i, have);
+        i += 1;
+    }
     let tail = [have as u8, end, number];
-    put_bytes(reader, cleared, &tail);
+    put_bytes(reader, HAVE_AT, &tail);
 }
 
 // A part of an input. It is taken whole, but for a record whose lines might not fit into the output and what stands behind it: the caller

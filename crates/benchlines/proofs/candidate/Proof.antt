@@ -2,7 +2,6 @@
 use native.Mathlib.Omega.{arith}
 use mathlib.Core.Path.{_∙_}
 use lib.ListN.{getD}
-use Rattle.text.proofs.Puts.{take-put}
 use Rattle.benchlines.specs.Records.{candidateOn}
 use Rattle.benchlines.proofs.Parts.{candidate-short}
 use borrow.Author.Needs.{needs}
@@ -24,8 +23,8 @@ shared-slice-read-candidate-data-2 c = search needs
 candidate-data-requires : tie.Need-candidate-data-requires
 candidate-data-requires c κs = search needs
 
-put-bytes-requires : tie.Need-put-bytes-requires
-put-bytes-requires c κs =
+copied-requires : tie.Need-copied-requires
+copied-requires c κs =
     let when = c .before .before .before .before .before in
     let a = when .before .before .before .before .args in
     let body = a .body .now in
@@ -41,7 +40,7 @@ unfolding candidateOn
 returns c =
     let when = c .before .before .before .before .before .before .before .before .time .ensures in
     let shown = simp (when .0, when .1) at (c .before .before .before .candidate-data .ensures) in
-    (take-put (c .before .before .put-bytes .ensures) ∙ shown, omega arith)
+    (c .before .before .copied .ensures .0 ∙ shown, c .before .before .copied .ensures .1)
 
 pub candidate-spec : {M : Type 1} → statement M
 candidate-spec =
@@ -52,6 +51,6 @@ candidate-spec =
     shared-slice-read-candidate-data
     shared-slice-read-candidate-data-2
     candidate-data-requires
-    put-bytes-requires
+    copied-requires
     same-length
     returns)
