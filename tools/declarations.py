@@ -1,4 +1,4 @@
-"""Holds the C header and the Rust crate to the code: to the exports of crates/ffi the names of the calls and of each the number, the order
+"""Holds the C header and the Rust crate to the code: to the exports of crates/ffi and crates/ffi_intake the names of the calls and of each the number, the order
 and the width of its parameters, what it hands back, and the fields of the structs; to crates/refusals the numbers, and those of an input to
 benchlines and intake; to the crates that have them the limits and sizes; to the definitions of crates/paper the order of refusals in the
 header's comments; and to each other names, texts, codes and versions.
@@ -83,7 +83,7 @@ def structs_like_rust(text):
 
 
 def of_rattle():
-    text, calls, structs = code_of("ffi"), {}, {}
+    text, calls, structs = code_of("ffi") + code_of("ffi_intake"), {}, {}
     pattern = r"#\[no_mangle\]\s*pub extern \"C\" fn (\w+)\((.*?)\)\s*(?:->\s*(?:\w+::)?(\w+))?\s*(?:requires|ensures|\{)"
     for name, parameters, result in re.findall(pattern, text, re.S):
         types = []
@@ -284,7 +284,7 @@ class Held:
 def calls(held, header):
     exports = of_rattle()
     if not exports[0]:
-        sys.exit("outside: no exports found in crates/ffi")
+        sys.exit("outside: no exports found in crates/ffi and crates/ffi_intake")
     for where, other in ((HEADER, of_header(header)), (SYS, of_rust(without_comments(read(SYS))))):
         before = held.wrong
         for i, what in enumerate(("call", "struct")):

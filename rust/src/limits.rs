@@ -45,7 +45,7 @@ pub const LONGEST_LINE: usize = 189;
 /// The stack of the archive's deepest call with its return address, as measured (docs/SPEED.md).
 pub const STACK_BYTES: usize = 352;
 /// The same for the two calls of a [`crate::Reader`].
-pub const READER_STACK_BYTES: usize = 808;
+pub const READER_STACK_BYTES: usize = 888;
 
 /// The bytes that a store of `d` rows and `n` slots takes; 0 for sizes that are not allowed.
 pub const fn room_size(d: u8, n: u8) -> usize {

@@ -27,10 +27,6 @@ use Rattle.ffi.proofs.dawnstook_is_subframe.Reads as is-subframe
 use Rattle.ffi.proofs.dawnstook_is_subframe.Kinds as is-subframe-kinds
 use Rattle.ffi.proofs.dawnstook_subframes_difference.Reads as subframes-difference
 use Rattle.ffi.proofs.dawnstook_subframes_difference.Kinds as subframes-difference-kinds
-use Rattle.ffi.proofs.dawnstook_part.Reads as part
-use Rattle.ffi.proofs.dawnstook_part.Kinds as part-kinds
-use Rattle.ffi.proofs.dawnstook_end.Reads as end
-use Rattle.ffi.proofs.dawnstook_end.Kinds as end-kinds
 
 pub room-size-asks-nothing : (κs : Lfts 0) (a : Dens κs room-size-kinds.ps) → room-size.Asked κs a
 room-size-asks-nothing κs a = tt
@@ -70,9 +66,3 @@ is-subframe-asks-nothing κs a = tt
 
 pub subframes-difference-asks-nothing : (κs : Lfts 0) (a : Dens κs subframes-difference-kinds.ps) → subframes-difference.Asked κs a
 subframes-difference-asks-nothing κs a = tt
-
-pub part-asks-nothing : (κs : Lfts 4) (a : Dens κs part-kinds.ps) → part.Asked κs a
-part-asks-nothing κs a = tt
-
-pub end-asks-nothing : (κs : Lfts 3) (a : Dens κs end-kinds.ps) → end.Asked κs a
-end-asks-nothing κs a = tt

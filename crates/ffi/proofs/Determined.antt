@@ -1,5 +1,4 @@
--- Each export's promise is tight: two outcomes that its contract permits are equal, what it hands back and the room, a reader's state and
--- its output.
+-- Each export's promise is tight: two outcomes that its contract permits are equal, what it hands back and the room.
 use mathlib.Core.Path.{_≡_, sym, _∙_}
 use borrow.Fn.Kinds.{resT, endedOf, Dens}
 use denote.Triple.Clauses.{AtExit}
@@ -30,11 +29,6 @@ use Rattle.ffi.proofs.dawnstook_is_subframe.Reads as dawnstook-is-subfr
 use Rattle.ffi.proofs.dawnstook_is_subframe.Kinds as dawnstook-is-subframe-kinds
 use Rattle.ffi.proofs.dawnstook_subframes_difference.Reads as dawnstook-subframes-difference-reads
 use Rattle.ffi.proofs.dawnstook_subframes_difference.Kinds as dawnstook-subframes-difference-kinds
-use Rattle.intake.proofs.Determined.{part-one, end-one}
-use Rattle.ffi.proofs.dawnstook_part.Reads as dawnstook-part-reads
-use Rattle.ffi.proofs.dawnstook_part.Kinds as dawnstook-part-kinds
-use Rattle.ffi.proofs.dawnstook_end.Reads as dawnstook-end-reads
-use Rattle.ffi.proofs.dawnstook_end.Kinds as dawnstook-end-kinds
 
 pub dawnstook-room-size-determined :
     (κs : Lfts 0)
@@ -139,21 +133,3 @@ pub dawnstook-subframes-difference-determined :
     (e e' : AtExit (endedOf 0 dawnstook-subframes-difference-kinds.ps dawnstook-subframes-difference-kinds.r) κs)
     → dawnstook-subframes-difference-reads.Post κs a r e → dawnstook-subframes-difference-reads.Post κs a r' e' → r ≡ r'
 dawnstook-subframes-difference-determined κs a r r' e e' p q = p ∙ sym q
-
-pub dawnstook-part-determined :
-    (κs : Lfts 4)
-    (a : Dens κs dawnstook-part-kinds.ps)
-    (r r' : resT dawnstook-part-kinds.r κs .Denot)
-    (e e' : AtExit (endedOf 4 dawnstook-part-kinds.ps dawnstook-part-kinds.r) κs)
-    → dawnstook-part-reads.Post κs a r e → dawnstook-part-reads.Post κs a r' e'
-    → (r ≡ r') × ((e .0 .now ≡ e' .0 .now) × ((e .1 .0 .now ≡ e' .1 .0 .now) × (e .1 .1 .1 .0 .now ≡ e' .1 .1 .1 .0 .now)))
-dawnstook-part-determined κs a r r' e e' p q = part-one r r' (p .0) (q .0) (p .1 .0) (q .1 .0) (p .1 .1) (q .1 .1)
-
-pub dawnstook-end-determined :
-    (κs : Lfts 3)
-    (a : Dens κs dawnstook-end-kinds.ps)
-    (r r' : resT dawnstook-end-kinds.r κs .Denot)
-    (e e' : AtExit (endedOf 3 dawnstook-end-kinds.ps dawnstook-end-kinds.r) κs)
-    → dawnstook-end-reads.Post κs a r e → dawnstook-end-reads.Post κs a r' e'
-    → (r ≡ r') × ((e .0 .now ≡ e' .0 .now) × (e .1 .1 .0 .now ≡ e' .1 .1 .0 .now))
-dawnstook-end-determined κs a r r' e e' p q = end-one r r' (p .0) (q .0) (p .1 .0) (q .1 .0) (p .1 .1) (q .1 .1)

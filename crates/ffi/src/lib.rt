@@ -2,8 +2,8 @@
 // number and its values go back by value, and a part of the room as its offset and its bytes. No contract here asks anything; what is owed
 // with a pointer from C stands in include/dawnstook.h.
 ghost use mathlib.Core.Path.{_≡_};
-ghost use mathlib.Core.Bool.{cond, false};
-ghost use lib.ListN.{length, take};
+ghost use mathlib.Core.Bool.{cond};
+ghost use lib.ListN.{length};
 ghost use Rattle.paper.specs.Number.{refused, number};
 ghost use Rattle.paper.specs.Parts.{part};
 ghost use Rattle.paper.specs.Record.{CED, Timing, familyIf};
@@ -15,9 +15,6 @@ ghost use Rattle.paper.specs.Time.{addSeconds, addSubframes, subframeOf, isSubf
 ghost use Rattle.gst.specs.Answer.{timeAnswer, startAnswer, apartAnswer};
 ghost use Rattle.refusals.specs.Reply.{replyAnswer, numberOf};
 ghost use Rattle.tags.specs.Candidates.{taggedAnswer};
-ghost use Rattle.text.specs.Text.{Put};
-ghost use Rattle.intake.specs.Input.{stageOf, linesOf};
-ghost use Rattle.intake.specs.Reader.{stageIn, readerOf, numberOf as stageNumber, Took, endFits, stageEnded, itemsEnded};
 ghost use Rattle.ffi.specs.Handed.{takenOf, shownOf, toldOf, momentOf, markOf, spanOf};
 ghost use Rattle.ffi.specs.Offset.{candidateOffset, askOffset};
 use ask::Answered;
@@ -27,9 +24,6 @@ use gst::NewTime;
 use gst::Start;
 use gst::Tow;
 use gst::Wn;
-use intake::Closed;
-use intake::Heard;
-use intake::READER;
 use limits::TIMING_KIND;
 use refusals::Refusal;
 use refusals::Reply;
@@ -398,33 +392,4 @@ pub extern "C" fn dawnstook_subframes_difference(
         tow: Tow(other_time),
     };
     of_apart(gst.subframes_difference(other))
-}
-
-// A part of an input of the bench: its records' lines go into `out`. All zero is the state of a reader at the start.
-#[no_mangle]
-pub extern "C" fn dawnstook_part(
-    reader: &mut [u8; READER],
-    room: &mut [u8],
-    bytes: &[u8],
-    out: &mut [u8],
-) -> Heard
-    ensures { λ r. ⌜ Took false (stageIn (now (reader .entry))) (now (bytes .entry)) (now (room .entry)) (now (out .entry))
-        (now (room .exit)) (now (out .exit)) (r .took) (r .said) ⌝ }
-    ensures { λ r. ⌜ now (reader .exit) ≡ readerOf (stageOf (stageIn (now (reader .entry))) (take (r .took) (now (bytes .entry)))) ⌝ }
-    ensures { λ r. ⌜ r .number ≡ stageNumber (stageOf (stageIn (now (reader .entry))) (take (r .took) (now (bytes .entry)))) ⌝ }
-{
-    intake::part(reader, room, bytes, out, false)
-}
-
-// The end of an input.
-#[no_mangle]
-pub extern "C" fn dawnstook_end(reader: &mut [u8; READER], room: &[u8], out: &mut [u8]) -> Closed
-    ensures { λ r. ⌜ now (reader .exit) ≡ readerOf (stageEnded false (now (out .entry)) (stageIn (now (reader .entry)))) ⌝ }
-    ensures { λ r. ⌜ (r .number ≡ stageNumber (stageEnded false (now (out .entry)) (stageIn (now (reader .entry)))))
-        × (r .taken ≡ endFits false (now (out .entry)) (stageIn (now (reader .entry)))) ⌝ }
-    ensures { λ r. ⌜ Put (now (out .entry)) 0
-        (linesOf false (now (room .entry)) (itemsEnded false (now (out .entry)) (stageIn (now (reader .entry)))))
-        (now (out .exit)) (r .said) ⌝ }
-{
-    intake::end(reader, room, out, false)
 }

@@ -32,10 +32,10 @@ use Rattle.ffi.proofs.dawnstook_reset_authbits.Reads as reset
 use Rattle.ffi.proofs.dawnstook_reset_authbits.Kinds as reset-kinds
 use Rattle.intake.proofs.part.Reads as read-part
 use Rattle.intake.proofs.end.Reads as read-end
-use Rattle.ffi.proofs.dawnstook_part.Reads as c-part
-use Rattle.ffi.proofs.dawnstook_part.Kinds as c-part-kinds
-use Rattle.ffi.proofs.dawnstook_end.Reads as c-end
-use Rattle.ffi.proofs.dawnstook_end.Kinds as c-end-kinds
+use Rattle.ffi_intake.proofs.dawnstook_part.Reads as c-part
+use Rattle.ffi_intake.proofs.dawnstook_part.Kinds as c-part-kinds
+use Rattle.ffi_intake.proofs.dawnstook_end.Reads as c-end
+use Rattle.ffi_intake.proofs.dawnstook_end.Kinds as c-end-kinds
 
 pub exported-fresh-is-step :
     (κs : Lfts 1)

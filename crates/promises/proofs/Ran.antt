@@ -49,8 +49,8 @@ use Rattle.ffi.proofs.dawnstook_tag.Reads as c-tag
 use Rattle.ffi.proofs.dawnstook_tag.Kinds as c-tag-kinds
 use Rattle.ffi.proofs.dawnstook_reset_authbits.Reads as c-reset
 use Rattle.ffi.proofs.dawnstook_reset_authbits.Kinds as c-reset-kinds
-use Rattle.ffi.proofs.dawnstook_part.Reads as c-part
-use Rattle.ffi.proofs.dawnstook_part.Kinds as c-part-kinds
+use Rattle.ffi_intake.proofs.dawnstook_part.Reads as c-part
+use Rattle.ffi_intake.proofs.dawnstook_part.Kinds as c-part-kinds
 
 -- ---- one call that ran
 -- lent the first k bytes of the room, it left these; those behind them are as they were
