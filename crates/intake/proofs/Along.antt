@@ -1,8 +1,7 @@
 -- Stages, records, rooms, lines and answers of bytes one behind the other: of two pieces of an input they are those of the whole. Behind the end of
 -- an input nothing is heard. Assumes nothing.
-use native.Mathlib.Omega.{arith}
 use mathlib.Core.Path.{_≡_, refl, sym, ap, _∙_}
-use mathlib.Core.Bool.{Bool, true, false, cond}
+use mathlib.Core.Bool.{Bool}
 use mathlib.Core.List.{List, [], _∷_, _++_, append-assoc, append-nil}
 use Prim.Native.Nat.{ℕ, suc, _+_}
 use lib.ListN.{length}

@@ -2,8 +2,8 @@
 use native.Mathlib.Omega.{arith}
 use native.Mathlib.Numerals.{add-one}
 use native.Mathlib.Nat.{add-sub-cancel, add-comm}
-use mathlib.Core.Path.{_≡_, refl, sym, ap, _∙_}
-use mathlib.Core.Bool.{Bool, true, false, cond}
+use mathlib.Core.Path.{_≡_, refl, sym, _∙_}
+use mathlib.Core.Bool.{Bool, true, false}
 use mathlib.Core.List.{List, [], _∷_, _++_, append-nil}
 use Prim.Native.Nat.{ℕ, zero, suc, _+_, _-_, _≤_, _<_}
 use lib.ListN.{length, getD, take, drop, set, length-set, length-take, length-drop}
@@ -16,7 +16,7 @@ use Rattle.lines.specs.declared.Kind.{Kind}
 use Rattle.lines.specs.Kinds.{kindOf, bodyLength, longestRecord}
 use Rattle.lines.proofs.Longest.{body-within}
 use Rattle.benchlines.specs.Records.{recordRoom}
-use Rattle.intake.specs.Input.{Item, Stage, going, whole, behind, stageAfter, itemsWith, mostFor, linesFor, roomOf, linesOf}
+use Rattle.intake.specs.Input.{Stage, going, whole, behind, stageAfter, itemsWith, mostFor, linesFor, roomOf, linesOf}
 use Rattle.intake.specs.Reader.{Stepped, Keeps}
 
 module _ (traced : Bool) (room kept : List ℕ) (have b : ℕ) (out : List ℕ) (at : ℕ) (fits : have < length kept) where

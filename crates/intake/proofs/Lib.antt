@@ -8,3 +8,4 @@ pub mod Calls
 pub mod Whole
 pub mod Determined
 pub mod Asks
+pub mod Examples

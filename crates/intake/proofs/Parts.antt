@@ -2,15 +2,15 @@
 use native.Mathlib.Omega.{arith}
 use native.Mathlib.Numerals.{add-one}
 use mathlib.Core.Path.{_≡_, refl, sym, ap, _∙_}
-use mathlib.Core.Bool.{Bool, true, false, cond}
+use mathlib.Core.Bool.{Bool, true, false}
 use mathlib.Core.List.{List, [], _∷_, _++_, append-nil}
 use Prim.Native.Nat.{ℕ, suc, _+_, _≤_, _<_}
 use lib.ListN.{length, getD, take, drop, take-append-drop, drop-of-length-le, length-drop}
-use lib.Seq.{take-suc, drop-cons, take-all, take-length}
+use lib.Seq.{take-suc, drop-cons, take-length}
 use Rattle.text.specs.Text.{Put}
 use Rattle.text.proofs.Puts.{length-putText, put-then, put-none}
 use Rattle.intake.specs.Input.{Item, Stage, ended, stageAfter, itemsWith, stageOf, itemsOf, roomOf, linesOf}
-use Rattle.intake.specs.Reader.{full, taken, Took, Stepped}
+use Rattle.intake.specs.Reader.{taken, Took, Stepped}
 use Rattle.intake.proofs.Along.{stages, items, rooms, texts, stages-one, items-one, stages-ended, items-ended, taken-ended}
 
 -- after i bytes of a part: what is still taken from here, where the reader stands, the room and the lines

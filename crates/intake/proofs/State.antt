@@ -1,8 +1,8 @@
 -- The state of a reader as bytes: what it keeps is fewer bytes than its record has, and its bytes say where it stands. Assumes nothing.
 use native.Mathlib.Omega.{arith}
-use mathlib.Core.Path.{_≡_, refl, sym, ap, _∙_}
+use mathlib.Core.Path.{_≡_, refl, ap, _∙_}
 use mathlib.Core.Bool.{Bool, true, false, cond}
-use mathlib.Core.List.{List, [], _∷_, _++_, append-assoc, append-nil}
+use mathlib.Core.List.{List, [], _∷_, _++_, append-nil}
 use Prim.Native.Nat.{ℕ, zero, suc, _+_, _-_, _≤_, _<_}
 use lib.ListN.{length, getD, take, set, replicate, length-append, length-take, length-replicate, replicate-append-replicate, drop-of-length-le}
 use lib.Seq.{take-at, length-take-le, getD-take, getD-append-add, set-getD}
@@ -14,7 +14,7 @@ use Rattle.lines.specs.declared.Kind.{Kind}
 use Rattle.lines.specs.declared.Kind.the-variants.{Word, Tag, Reset, Ced, Timing, Fresh, Unknown}
 use Rattle.lines.specs.Kinds.{kindOf, bodyLength, longestRecord}
 use Rattle.lines.proofs.Longest.{body-within}
-use Rattle.intake.specs.Input.{Stage, going, ended, unfinished, behind, stageAfter, stageOf, stageAtEnd}
+use Rattle.intake.specs.Input.{Stage, going, ended, unfinished, behind, stageAfter, stageOf}
 use Rattle.intake.specs.Reader.{readerBytes, haveAt, endedAt, numberAt, keptIn, stageIn, stateOf, readerOf}
 
 -- ---- what is kept is not a whole record

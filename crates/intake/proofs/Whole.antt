@@ -3,18 +3,16 @@
 use borrow.Fn.Kinds.{resT, endedOf, Dens}
 use denote.Triple.Clauses.{AtExit}
 use contract.Lifetimes.{Lfts}
-use native.Mathlib.Omega.{arith}
 use mathlib.Core.Path.{_≡_, refl, sym, ap, subst, _∙_}
-use mathlib.Core.Bool.{Bool, true, false, cond}
-use mathlib.Core.List.{List, [], _∷_, _++_, append-assoc, append-nil}
-use Prim.Native.Nat.{ℕ, zero, suc, _+_, _≤_}
+use mathlib.Core.Bool.{Bool, true}
+use mathlib.Core.List.{List, [], _∷_, _++_, append-assoc}
+use Prim.Native.Nat.{ℕ, _+_, _≤_}
 use lib.ListN.{length, take, drop, replicate, take-append-drop}
 use lib.Seq.{take-append-le}
 use Rattle.paper.specs.Call.{run}
-use Rattle.text.specs.Text.{Put}
 use Rattle.text.proofs.Puts.{take-put}
-use Rattle.intake.specs.Input.{Item, Stage, going, ended, stageOf, itemsOf, stageAtEnd, itemsAtEnd, atStart, recordsOf, roomOf, linesOf, benchRoom, output}
-use Rattle.intake.specs.Reader.{stageIn, readerOf, readerBytes, endFits, stageEnded, itemsEnded, taken, Took}
+use Rattle.intake.specs.Input.{Item, Stage, going, ended, stageOf, itemsOf, itemsAtEnd, atStart, recordsOf, roomOf, linesOf, benchRoom, output}
+use Rattle.intake.specs.Reader.{stageIn, readerOf, readerBytes, endFits, itemsEnded, taken}
 use Rattle.intake.proofs.Along.{stages, items, rooms, texts, items-ended, stages-ended}
 use Rattle.intake.proofs.State.{Proper, none-unfinished, of-proper, stage-back}
 use Rattle.intake.proofs.Taken.{taken-most}

@@ -10,15 +10,15 @@ use text::put_bytes;
 use text::put_hex32;
 ghost use mathlib.Core.Path.{_≡_};
 ghost use mathlib.Core.Bool.{cond};
-ghost use mathlib.Core.List.{List, []};
+ghost use mathlib.Core.List.{[]};
 ghost use Prim.Native.Nat.{_+_, _≤_, _<_};
 ghost use lib.Dec.{ltb};
 ghost use lib.ListN.{length, getD, take};
 ghost use Rattle.text.specs.Text.{Put};
 ghost use Rattle.lines.specs.Kinds.{kindOf, bodyLength, longestRecord};
 ghost use Rattle.benchlines.specs.Records.{recordRoom, unknownKind};
-ghost use Rattle.intake.specs.Input.{going, ended, whole, cut, behind, stageAfter, itemsWith, stageOf, itemsOf};
-ghost use Rattle.intake.specs.Input.{traceLine, traceBytes, mostFor, linesFor, roomOf, linesOf};
+ghost use Rattle.intake.specs.Input.{going, ended, whole, cut, behind, stageOf};
+ghost use Rattle.intake.specs.Input.{traceLine, traceBytes, mostFor, linesFor, linesOf};
 ghost use Rattle.intake.specs.Reader.{readerBytes, haveAt, keptIn, stageIn, stateOf, readerOf, numberOf, full};
 ghost use Rattle.intake.specs.Reader.{Took, Stepped, endFits, stageEnded, itemsEnded, standing, Keeps};
 

@@ -4,7 +4,7 @@
 use mathlib.Core.Bool.{Bool}
 use mathlib.Core.List.{List, [], _∷_, _++_}
 use mathlib.Core.Logic.{_≢_}
-use mathlib.Core.Path.{_≡_, refl, sym, ap, subst, _∙_}
+use mathlib.Core.Path.{_≡_, sym, ap, subst, _∙_}
 use Prim.Native.Nat.{ℕ}
 use lib.ListN.{getD}
 use Rattle.paper.specs.Number.{number, values}
@@ -14,7 +14,7 @@ use Rattle.stays.proofs.Stays.{run-after}
 use Rattle.history.specs.Line.{Place, Inside, at, tags}
 use Rattle.history.specs.Demand.{Earned, Behind}
 use Rattle.history.proofs.Demand.{demand-3, never-3, ask-earned}
-use Rattle.intake.specs.Input.{atStart, recordsOf, roomOf, callsFrom}
+use Rattle.intake.specs.Input.{atStart, recordsOf, callsFrom}
 use Rattle.intake.specs.Reader.{readerOf}
 use Rattle.intake.proofs.Calls.{room-of-calls}
 use Rattle.intake.proofs.Whole.{Read, read-in-parts}

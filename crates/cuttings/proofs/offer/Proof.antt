@@ -1,6 +1,5 @@
 -- `offer`: no more is taken than there is, and the lines lie within the output that was lent.
 use native.Mathlib.Omega.{arith}
-use lib.ListN.{length-append, length-take, length-drop}
 use Rattle.intake.proofs.Taken.{taken-most}
 use borrow.Author.Needs.{needs}
 use Rattle.cuttings.proofs.offer.Statement.{statement}

@@ -2,7 +2,6 @@
 use native.Mathlib.Omega.{arith}
 use Prim.Native.Nat.{_-_, _≤_}
 use lib.ListN.{length}
-use borrow.Author.Needs.{needs}
 use Rattle.cuttings.proofs.same_bytes.Statement.{statement}
 use Rattle.cuttings.proofs.same_bytes.Tie as tie
 

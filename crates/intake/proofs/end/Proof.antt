@@ -2,7 +2,6 @@
 use native.Mathlib.Omega.{arith}
 use mathlib.Core.Path.{_≡_, refl, sym, _∙_}
 use mathlib.Core.List.{append-nil}
-use Prim.Native.Nat.{ℕ}
 use lib.ListN.{length, getD, take}
 use lib.Seq.{length-take-le}
 use Rattle.lines.specs.Kinds.{kindOf}

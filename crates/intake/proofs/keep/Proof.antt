@@ -1,7 +1,7 @@
 -- `keep`: the bytes behind those that are kept become zero one after the other, and behind them stand how many are kept, the mark of the end
 -- and the number.
 use native.Mathlib.Omega.{arith}
-use mathlib.Core.Path.{_≡_, refl, sym, ap, _∙_}
+use mathlib.Core.Path.{_≡_, refl, sym, _∙_}
 use Prim.Native.Nat.{ℕ, _-_, _≤_}
 use lib.ListN.{length, replicate, length-set, length-replicate}
 use Rattle.text.specs.Text.{Put, putText}

@@ -1,6 +1,5 @@
 -- `kept_in`: what a state keeps is an unfinished record, or nothing.
 use native.Mathlib.Omega.{arith}
-use mathlib.Core.Path.{_∙_}
 use Rattle.intake.proofs.State.{kept-few, kept-none}
 use borrow.Author.Needs.{needs}
 use Rattle.intake.proofs.kept_in.Statement.{statement}

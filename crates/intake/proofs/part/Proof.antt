@@ -1,5 +1,5 @@
 -- `part`: behind the input's end nothing happens; else the bytes are taken, and the state is where the reader stands then.
-use mathlib.Core.Path.{_≡_, refl, sym}
+use mathlib.Core.Path.{refl}
 use Rattle.intake.specs.Reader.{readerOf}
 use Rattle.intake.proofs.Along.{stages-ended}
 use Rattle.intake.proofs.Byte.{keeps-short}
