@@ -15,3 +15,5 @@ pub mod RecordViews
 pub mod Same
 pub mod Opens
 pub mod Shorter
+pub mod Fields
+pub mod Numbers

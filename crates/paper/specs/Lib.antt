@@ -6,6 +6,8 @@ pub mod Parts
 pub mod Big
 pub mod Record
 pub mod Word
+pub mod Field
+pub mod Double
 pub mod Room
 pub mod Store
 pub mod Fresh
@@ -14,4 +16,5 @@ pub mod Tag
 pub mod Ask
 pub mod Reset
 pub mod Answer
+pub mod Orbit
 pub mod Call
