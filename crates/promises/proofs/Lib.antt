@@ -4,3 +4,4 @@ pub mod Joined
 pub mod Exports
 pub mod Input
 pub mod Ran
+pub mod Numbers
