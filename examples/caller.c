@@ -1,5 +1,5 @@
 /* What the header says of the calls and asks of the caller, tried: NULL with length 0, no alignment, no byte outside of a range, sizes,
- * texts, every number, any bytes as a reader, the stack. For x86-64 on a system with mmap. */
+ * texts, every number, any bytes as a reader, any rounding mode, the stack. For x86-64 on a system with mmap. */
 #define _DEFAULT_SOURCE
 #include <stdio.h>
 #include <stdlib.h>
@@ -8,7 +8,7 @@
 #include <unistd.h>
 #include "dawnstook.h"
 
-enum { D = 2, N = 3, SAT = 11, WEEK = 1177, START = 175740, MACK = START + DAWNSTOOK_SUBFRAME_SECONDS };
+enum { D = 2, N = 3, SAT = 11, WEEK = 1177, START = 175740, MACK = START + DAWNSTOOK_SUBFRAME_SECONDS, ISSUE = 42 };
 #define SIZE DAWNSTOOK_ROOM_SIZE(D, N)
 
 static void need(bool truth, const char *what) {
@@ -17,13 +17,52 @@ static void need(bool truth, const char *what) {
     exit(1);
 }
 
+/* A word of equal bytes behind its type; words 1 to 4 are of one issue, and word 4 names the satellite. */
+static void make_word(uint8_t *word, uint8_t type, uint8_t byte) {
+    memset(word, byte, DAWNSTOOK_WORD_BYTES);
+    word[0] = (uint8_t)(type << 2);
+    if (type >= 1 && type <= 4) word[1] = ISSUE;
+    if (type == 4) word[2] = SAT << 2;
+}
+
 /* The words of one satellite, at a place that the caller chooses. */
 static void words(uint8_t *room, size_t len, uint8_t *word) {
     for (uint8_t type = 1; type <= 10; type++) {
-        memset(word, type, DAWNSTOOK_WORD_BYTES);
-        word[0] = (uint8_t)(type << 2);
+        make_word(word, type, type);
         need(dawnstook_feed(room, len, word, DAWNSTOOK_WORD_BYTES, SAT, WEEK, START, DAWNSTOOK_E1B) == DAWNSTOOK_DONE, "a word is taken");
     }
+}
+
+/* A tag of 40 bits of the satellite's data, which came in the subframe before. */
+static void tag(uint8_t *room, size_t len, uint8_t kind, uint32_t mack) {
+    uint8_t given[DAWNSTOOK_CED_BYTES];
+    dawnstook_shown seen = dawnstook_candidate(room, len, SAT, kind, 1, WEEK, mack);
+    need(seen.number == DAWNSTOOK_DONE && seen.bytes <= sizeof given, "a candidate");
+    memcpy(given, room + seen.offset, seen.bytes);
+    dawnstook_taken taken = dawnstook_tag(room, len, SAT, kind, 1, 40, DAWNSTOOK_OPERATIONAL, WEEK, mack, given, seen.bytes, true);
+    need(taken.number == DAWNSTOOK_DONE && taken.records > 0, "a tag is taken");
+}
+
+/* Whether numbers are the same to the bit, and whether all but the number is 0. The bytes between the fields do not count. */
+#define SAME(field) (memcmp(&a.field, &b.field, sizeof a.field) == 0)
+static bool same_orbit(dawnstook_orbit a, dawnstook_orbit b) {
+    return SAME(number) && SAME(authbits) && SAME(week) && SAME(time) && SAME(word1) && SAME(word2) && SAME(word3) && SAME(word4)
+        && SAME(word5) && SAME(scaled);
+}
+static bool same_timing(dawnstook_timing a, dawnstook_timing b) {
+    return SAME(number) && SAME(authbits) && SAME(week) && SAME(time) && SAME(word6) && SAME(word10) && SAME(scaled);
+}
+static bool bare_orbit(dawnstook_orbit o) {
+    dawnstook_orbit none;
+    memset(&none, 0, sizeof none);
+    none.number = o.number;
+    return same_orbit(o, none);
+}
+static bool bare_timing(dawnstook_timing t) {
+    dawnstook_timing none;
+    memset(&none, 0, sizeof none);
+    none.number = t.number;
+    return same_timing(t, none);
 }
 
 /* A store through all its calls, with the data given at a place that the caller chooses. */
@@ -47,6 +86,14 @@ static void use(uint8_t *room, size_t len, uint8_t *word, uint8_t *given) {
     dawnstook_told ced = dawnstook_get_ced_and_status(room, len, SAT), timing = dawnstook_get_timing_parameters(room, len, SAT);
     need(ced.number == DAWNSTOOK_DONE && ced.authbits == 2 * 144 && ced.bytes == DAWNSTOOK_CED_BYTES, "asking CED");
     need(timing.number == DAWNSTOOK_DONE && timing.authbits == 144 && timing.bytes == DAWNSTOOK_TIMING_BYTES, "asking timing");
+    dawnstook_orbit orbit = dawnstook_get_orbit(room, len, SAT);
+    dawnstook_timing numbers = dawnstook_get_timing_numbers(room, len, SAT);
+    need(orbit.number == DAWNSTOOK_DONE && orbit.authbits == ced.authbits && orbit.week == ced.week && orbit.time == ced.time, "an orbit");
+    need(orbit.word1.iodnav == ISSUE && orbit.word4.svid == SAT, "the issue and the satellite of an orbit");
+    need(orbit.word1.e == 0x40404040 && orbit.scaled.e == 0x40404040 / 8589934592.0, "a number of an orbit");
+    need(numbers.number == DAWNSTOOK_DONE && numbers.authbits == timing.authbits, "timing as numbers");
+    need(numbers.week == timing.week && numbers.time == timing.time, "the time of timing as numbers");
+    need(numbers.word10.a0g == -32126 && numbers.scaled.a0g == -32126 / 34359738368.0, "a number of timing");
 }
 
 /* Records of an input (STORE 17.2): each answers how many bytes it wrote. */
@@ -57,9 +104,7 @@ static size_t put_time(uint8_t *at, uint32_t time) {
 }
 static size_t put_word(uint8_t *at, uint8_t type, uint32_t time) {
     at[0] = 1, at[1] = SAT, at[2] = DAWNSTOOK_E1B;
-    uint8_t *word = at + 3 + put_time(at + 3, time);
-    memset(word, type, DAWNSTOOK_WORD_BYTES);
-    word[0] = (uint8_t)(type << 2);
+    make_word(at + 3 + put_time(at + 3, time), type, type);
     return 9 + DAWNSTOOK_WORD_BYTES;
 }
 static size_t put_tag(uint8_t *at, uint8_t kind, uint8_t bits, uint32_t mack) {
@@ -157,12 +202,15 @@ static void nothing(void) {
     dawnstook_shown seen = dawnstook_candidate(NULL, 0, SAT, DAWNSTOOK_CED, 1, WEEK, MACK);
     dawnstook_told ced = dawnstook_get_ced_and_status(NULL, 0, SAT), timing = dawnstook_get_timing_parameters(NULL, 0, SAT);
     dawnstook_taken taken = dawnstook_tag(NULL, 0, SAT, DAWNSTOOK_CED, 1, 40, DAWNSTOOK_OPERATIONAL, WEEK, MACK, NULL, 0, true);
-    need(bare_shown(seen) && bare_told(ced) && bare_told(timing) && taken.records == 0, "a refusal carries no data");
-    printf("NULL as a room of 0 bytes: fresh %d and %d, feed %d and %d, candidate %d, tag %d, asking %d and %d, reset %d\n",
-           dawnstook_fresh(NULL, 0, D, N), dawnstook_fresh(NULL, 0, 0, 0),
+    dawnstook_orbit orbit = dawnstook_get_orbit(NULL, 0, SAT);
+    dawnstook_timing numbers = dawnstook_get_timing_numbers(NULL, 0, SAT);
+    need(bare_shown(seen) && bare_told(ced) && bare_told(timing) && taken.records == 0 && bare_orbit(orbit) && bare_timing(numbers),
+         "a refusal carries no data");
+    printf("NULL as a room of 0 bytes: fresh %d and %d, feed %d and %d, candidate %d, tag %d, asking %d and %d, numbers %d and %d, "
+           "reset %d\n", dawnstook_fresh(NULL, 0, D, N), dawnstook_fresh(NULL, 0, 0, 0),
            dawnstook_feed(NULL, 0, word, sizeof word, SAT, WEEK, START, DAWNSTOOK_E1B),
            dawnstook_feed(NULL, 0, NULL, 0, SAT, WEEK, START, DAWNSTOOK_E1B), seen.number, taken.number, ced.number, timing.number,
-           dawnstook_reset_authbits(NULL, 0));
+           orbit.number, numbers.number, dawnstook_reset_authbits(NULL, 0));
     need(dawnstook_fresh(room, sizeof room, D, N) == DAWNSTOOK_DONE, "a fresh store");
     words(room, sizeof room, word);
     printf("NULL as a word of 0 bytes: %d\n", dawnstook_feed(room, sizeof room, NULL, 0, SAT, WEEK, START, DAWNSTOOK_E1B));
@@ -220,10 +268,21 @@ static void constants(void) {
     printf("others %s\n", unlisted);
 }
 
+/* The number of reading an orbit once this word has come and a tag over all of them. */
+static uint8_t unreadable(uint8_t *room, const uint8_t *word) {
+    need(dawnstook_feed(room, SIZE, word, DAWNSTOOK_WORD_BYTES, SAT, WEEK, START, DAWNSTOOK_E1B) == DAWNSTOOK_DONE, "a word is taken");
+    need(dawnstook_get_orbit(room, SIZE, SAT).number == DAWNSTOOK_NOT_ENOUGH, "what is not authenticated is not looked into");
+    tag(room, SIZE, DAWNSTOOK_CED, MACK);
+    need(dawnstook_get_ced_and_status(room, SIZE, SAT).number == DAWNSTOOK_DONE, "asking CED");
+    dawnstook_orbit orbit = dawnstook_get_orbit(room, SIZE, SAT);
+    need(bare_orbit(orbit), "a refusal carries no data");
+    return orbit.number;
+}
+
 /* Every number that a call may answer, once. */
 static void numbers(void) {
     static uint8_t room[SIZE], before[SIZE], word[DAWNSTOOK_WORD_BYTES], given[DAWNSTOOK_CED_BYTES];
-    static uint8_t ended[DAWNSTOOK_READER_BYTES], cut[DAWNSTOOK_READER_BYTES], out[DAWNSTOOK_LONGEST_LINE];
+    static uint8_t ended[DAWNSTOOK_READER_BYTES], cut[DAWNSTOOK_READER_BYTES], out[DAWNSTOOK_LONGEST_LINE], other[SIZE];
     const uint8_t op = DAWNSTOOK_OPERATIONAL, unknown = 0, fresh = 6;
     need(dawnstook_fresh(room, sizeof room, D, N) == DAWNSTOOK_DONE, "a fresh store");
     words(room, sizeof room, word);
@@ -248,30 +307,82 @@ static void numbers(void) {
     printf(" %d", dawnstook_end(cut, room, SIZE, out, sizeof out).number);
     printf(" %d", dawnstook_tag(room, SIZE, SAT, DAWNSTOOK_CED, 0, 40, op, WEEK, MACK, given, sizeof given, true).number);
     printf(" %d", dawnstook_tag(room, SIZE, SAT, DAWNSTOOK_CED, 1, 40, op, WEEK, MACK, given, sizeof given, false).number);
-    printf(" %d\n", dawnstook_tag(room, SIZE, SAT, DAWNSTOOK_CED, 1, 40, DAWNSTOOK_DONT_USE, WEEK, MACK, given, sizeof given, true).number);
+    printf(" %d", dawnstook_tag(room, SIZE, SAT, DAWNSTOOK_CED, 1, 40, DAWNSTOOK_DONT_USE, WEEK, MACK, given, sizeof given, true).number);
+    memcpy(other, room, SIZE);
+    make_word(word, 1, 1);
+    word[1] ^= 1;
+    printf(" %d", unreadable(other, word));
+    memcpy(other, room, SIZE);
+    make_word(word, 4, 4);
+    word[2] = (SAT + 1) << 2;
+    printf(" %d\n", unreadable(other, word));
     need(memcmp(room, before, SIZE) == 0, "a refusal changes no byte");
     puts("a refusal changes no byte");
 }
 
-/* A body run on a stack of its own, painted before; what is painted no more was needed. */
+/* The control register of the vector unit: 0x3f its flags, 0x1f80 their masks, 0x6000 the rounding mode, 0x8040 the smallest as zeros. */
+static uint32_t control(void) {
+    uint32_t bits;
+    __asm__ volatile("stmxcsr %0" : "=m"(bits) : : "memory");
+    return bits;
+}
+static void set_control(uint32_t bits) { __asm__ volatile("ldmxcsr %0" : : "m"(bits) : "memory"); }
+
+static void rounding(void) {
+    static const uint8_t bytes[] = { 0x00, 0x01, 0x5a, 0x7f, 0x80, 0xff };
+    static uint8_t room[SIZE], word[DAWNSTOOK_WORD_BYTES];
+    const uint32_t usual = control();
+    for (size_t i = 0; i < sizeof bytes; i++) {
+        need(dawnstook_fresh(room, SIZE, D, N) == DAWNSTOOK_DONE, "a fresh store");
+        for (uint8_t type = 1; type <= 10; type++) {
+            make_word(word, type, bytes[i]);
+            need(dawnstook_feed(room, SIZE, word, sizeof word, SAT, WEEK, START, DAWNSTOOK_E1B) == DAWNSTOOK_DONE, "a word is taken");
+        }
+        tag(room, SIZE, DAWNSTOOK_CED, MACK);
+        tag(room, SIZE, DAWNSTOOK_TIMING, MACK);
+        dawnstook_orbit orbit = dawnstook_get_orbit(room, SIZE, SAT);
+        dawnstook_timing timing = dawnstook_get_timing_numbers(room, SIZE, SAT);
+        need(orbit.number == DAWNSTOOK_DONE && timing.number == DAWNSTOOK_DONE, "numbers");
+        for (uint32_t mode = 0; mode < 16; mode++) {
+            /* the rounding mode, masks on or off, the smallest numbers as they are or as zeros */
+            const uint32_t chosen = (mode & 3) << 13 | (mode & 4 ? 0x1f80 : 0) | (mode & 8 ? 0x8040 : 0);
+            set_control(chosen);
+            dawnstook_orbit again = dawnstook_get_orbit(room, SIZE, SAT);
+            dawnstook_timing timing_again = dawnstook_get_timing_numbers(room, SIZE, SAT);
+            const uint32_t after = control();
+            set_control(usual);
+            need(after == chosen, "no flag is raised, and no mode is changed");
+            need(same_orbit(again, orbit) && same_timing(timing_again, timing), "the rounding mode does not matter");
+        }
+        const dawnstook_scaled plus_zero = { 0, 0, 0, 0, 0, 0, 0, 0, 0, 0, 0, 0, 0, 0, 0, 0, 0, 0, 0, 0, 0, 0, 0 };
+        need(bytes[i] != 0 || memcmp(&orbit.scaled, &plus_zero, sizeof plus_zero) == 0, "0 is plus zero");
+    }
+    puts("the rounding mode does not matter, and no flag is raised");
+}
+
+/* A call made on a stack of its own, painted before: what is painted no more was needed, the return address with it. Eight arguments are
+ * passed as the calling convention has it, six in registers and two on the stack, whether the call takes them or not. Compilers do not see
+ * which function is called, so that what it reads and writes by name is volatile. */
+enum { ARGUMENTS = 8, STACKED_BYTES = 2 * 8 };
 static uint8_t stack[1 << 14], stack_room[DAWNSTOOK_ROOM_SIZE(DAWNSTOOK_MOST_ROWS, DAWNSTOOK_MOST_SLOTS)];
 static uint8_t stack_word[DAWNSTOOK_WORD_BYTES], stack_given[DAWNSTOOK_CED_BYTES];
 static uint8_t stack_reader[DAWNSTOOK_READER_BYTES], stack_record[9 + DAWNSTOOK_WORD_BYTES], stack_out[DAWNSTOOK_LONGEST_LINE];
-static size_t stack_bytes, stack_said;
-static uint32_t stack_time = START;
-static uint8_t stack_number;
+static volatile uint32_t stack_time = START;
+static volatile uint8_t stack_number;
 static size_t stack_most;
-static size_t needed(void (*body)(void)) {
+static size_t needed(void (*call)(void), const uint64_t *arguments) {
     uint8_t *top = stack + sizeof stack - (uintptr_t)(stack + sizeof stack) % 16;
+    const size_t whole = (size_t)(top - stack);
     size_t i = 0;
     memset(stack, 0xa5, sizeof stack);
-    __asm__ volatile("movq %%rsp, %%rbx\n\tmovq %0, %%rsp\n\tcallq *%1\n\tmovq %%rbx, %%rsp"
-                     : "+&r"(top), "+&r"(body)
+    __asm__ volatile("movq %%rsp, %%rbx\n\tmovq %0, %%rsp\n\tpushq 56(%2)\n\tpushq 48(%2)\n\tmovq 40(%2), %%r9\n\tmovq 32(%2), %%r8\n\t"
+                     "movq 24(%2), %%rcx\n\tmovq 16(%2), %%rdx\n\tmovq 8(%2), %%rsi\n\tmovq (%2), %%rdi\n\tcallq *%1\n\tmovq %%rbx, %%rsp"
+                     : "+&r"(top), "+&r"(call), "+&r"(arguments)
                      :
                      : "rax", "rbx", "rcx", "rdx", "rsi", "rdi", "r8", "r9", "r10", "r11", "memory", "cc", "xmm0", "xmm1", "xmm2", "xmm3",
                        "xmm4", "xmm5", "xmm6", "xmm7", "xmm8", "xmm9", "xmm10", "xmm11", "xmm12", "xmm13", "xmm14", "xmm15");
-    while (i < sizeof stack && stack[i] == 0xa5) i++;
-    return sizeof stack - i;
+    while (i < whole && stack[i] == 0xa5) i++;
+    return whole - i;
 }
 static void on_nothing(void) {}
 static void on_fresh(void) { stack_number = dawnstook_fresh(stack_room, sizeof stack_room, DAWNSTOOK_MOST_ROWS, DAWNSTOOK_MOST_SLOTS); }
@@ -293,32 +404,69 @@ static void on_times(void) {
         | dawnstook_gst_subframe(WEEK, START).number | dawnstook_is_subframe(WEEK, START).number
         | dawnstook_subframes_difference(WEEK, START, WEEK, 0).number;
 }
-static void on_part(void) {
-    dawnstook_heard heard = dawnstook_part(stack_reader, stack_room, sizeof stack_room, stack_record, stack_bytes, stack_out,
-                                           sizeof stack_out);
-    stack_number = heard.number, stack_said = heard.said;
-}
 static void on_end(void) {
-    dawnstook_closed closed = dawnstook_end(stack_reader, stack_room, sizeof stack_room, stack_out, sizeof stack_out);
-    stack_number = closed.number, stack_said = closed.said;
+    stack_number = dawnstook_end(stack_reader, stack_room, sizeof stack_room, stack_out, sizeof stack_out).number;
 }
-static void within(void (*body)(void), uint8_t number, const char *what) {
-    size_t bytes = needed(body) - needed(on_nothing); /* the call's arguments and result, its return address and all below */
-    need(stack_number == number, what);
+static void count(size_t bytes) {
     if (bytes > stack_most) stack_most = bytes;
 }
+static void within(void (*body)(void), uint8_t number, const char *what) {
+    static const uint64_t none[ARGUMENTS];
+    count(needed(body, none) - needed(on_nothing, none)); /* the call's arguments and result, its return address and all below */
+    need(stack_number == number, what);
+}
+/* The deepest calls hand back their result in memory, whose place is the first argument. They are made without a function around them, in
+ * which compilers leave different bytes free beside a result: here it is not on this stack, and its own bytes are added. */
+
 /* A record in one part, with what its line begins with. */
 static void record_within(size_t bytes, uint8_t number, const char *line) {
-    stack_bytes = bytes;
-    within(on_part, number, line);
-    need(stack_said >= strlen(line) && memcmp(stack_out, line, strlen(line)) == 0, line);
+    static dawnstook_heard heard;
+    const uint64_t arguments[ARGUMENTS] = { (uintptr_t)&heard, (uintptr_t)stack_reader, (uintptr_t)stack_room, sizeof stack_room,
+                                            (uintptr_t)stack_record, bytes, (uintptr_t)stack_out, sizeof stack_out };
+    count(needed((void (*)(void))dawnstook_part, arguments) + sizeof heard);
+    need(heard.number == number && heard.said >= strlen(line) && memcmp(stack_out, line, strlen(line)) == 0, line);
+}
+/* Data read as numbers. */
+static void numbers_within(void (*call)(void), void *result, size_t bytes) {
+    const uint64_t arguments[ARGUMENTS] = { (uintptr_t)result, (uintptr_t)stack_room, sizeof stack_room, SAT };
+    count(needed(call, arguments) - STACKED_BYTES + bytes);
+}
+static void orbit_within(uint8_t number, const char *what) {
+    static dawnstook_orbit orbit;
+    numbers_within((void (*)(void))dawnstook_get_orbit, &orbit, sizeof orbit);
+    need(orbit.number == number, what);
+}
+static void timing_within(uint8_t number, const char *what) {
+    static dawnstook_timing timing;
+    numbers_within((void (*)(void))dawnstook_get_timing_numbers, &timing, sizeof timing);
+    need(timing.number == number, what);
+}
+/* The two calls that read numbers, with each answer that hangs on the data. */
+static void number_stacks(void) {
+    orbit_within(DAWNSTOOK_NOT_ENOUGH, "an orbit without a tag");
+    timing_within(DAWNSTOOK_NOT_ENOUGH, "timing as numbers without a tag");
+    tag(stack_room, sizeof stack_room, DAWNSTOOK_CED, stack_time + 30);
+    tag(stack_room, sizeof stack_room, DAWNSTOOK_TIMING, stack_time + 30);
+    orbit_within(DAWNSTOOK_DONE, "an orbit");
+    timing_within(DAWNSTOOK_DONE, "timing as numbers");
+    make_word(stack_word, 4, 0x5a);
+    stack_word[2] = (SAT + 1) << 2;
+    on_feed();
+    tag(stack_room, sizeof stack_room, DAWNSTOOK_CED, stack_time + 30);
+    orbit_within(DAWNSTOOK_OTHER_SATELLITE, "an orbit that names another satellite");
+    stack_word[1] ^= 1;
+    on_feed();
+    tag(stack_room, sizeof stack_room, DAWNSTOOK_CED, stack_time + 30);
+    orbit_within(DAWNSTOOK_ISSUES_DIFFER, "an orbit of two issues");
+    fprintf(stderr, "caller: the deepest call that reads numbers needed %zu bytes of stack\n", stack_most);
+    need(stack_most <= DAWNSTOOK_NUMBERS_STACK_BYTES, "the stack is enough for numbers");
+    printf("no call that reads numbers needed more than %d bytes of stack\n", DAWNSTOOK_NUMBERS_STACK_BYTES);
 }
 static void stacks(void) {
     within(on_fresh, DAWNSTOOK_DONE, "fresh");
     for (int row = 0; row < 2 * DAWNSTOOK_MOST_ROWS; row++, stack_time += DAWNSTOOK_SUBFRAME_SECONDS)
         for (uint8_t type = 0; type < 64; type++) {
-            memset(stack_word, 0x5a, sizeof stack_word);
-            stack_word[0] = (uint8_t)(type << 2);
+            make_word(stack_word, type, 0x5a);
             within(on_feed, DAWNSTOOK_DONE, "feed");
         }
     stack_time -= DAWNSTOOK_SUBFRAME_SECONDS;
@@ -333,6 +481,8 @@ static void stacks(void) {
     fprintf(stderr, "caller: the deepest call needed %zu bytes of stack\n", stack_most);
     need(stack_most <= DAWNSTOOK_STACK_BYTES, "the stack is enough");
     printf("no call needed more than %d bytes of stack\n", DAWNSTOOK_STACK_BYTES);
+    stack_most = 0;
+    number_stacks();
     stack_most = 0;
     for (int row = 0; row < 2; row++) {
         stack_time += DAWNSTOOK_SUBFRAME_SECONDS;
@@ -364,6 +514,7 @@ int main(void) {
     ranges();
     constants();
     numbers();
+    rounding();
     stacks();
     return 0;
 }

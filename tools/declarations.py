@@ -1,7 +1,7 @@
-"""Holds the C header and the Rust crate to the code: to the exports of crates/ffi and crates/ffi_intake the names of the calls and of each the number, the order
-and the width of its parameters, what it hands back, and the fields of the structs; to crates/refusals the numbers, and those of an input to
-benchlines and intake; to the crates that have them the limits and sizes; to the definitions of crates/paper the order of refusals in the
-header's comments; and to each other names, texts, codes and versions.
+"""Holds the C header and the Rust crate to the code: to the exports of crates/ffi, ffi_intake and ffi_orbit the names of the calls and of
+each the number, the order and the width of its parameters, what it hands back, and the fields of the structs; to crates/refusals the
+numbers, those of an input to benchlines and intake, and those of an orbit to orbit; to the crates that have them the limits and sizes; to
+the definitions of crates/paper the order of refusals in the header's comments; and to each other names, texts, codes and versions.
 
 usage: declarations.py      in the repository's top folder
 """
@@ -11,21 +11,31 @@ import sys
 
 HEADER, SYS, RUST = "include/dawnstook.h", "rust/src/sys.rs", "rust/src/"
 
+# the crates that have exports
+EXPORTS = ["ffi", "ffi_intake", "ffi_orbit"]
+
 # a slice is a pointer and a length, an array a pointer alone: its length is one of CONSTANTS
 RATTLE = {"&mut [u8]": ["*mut u8", "usize"], "&[u8]": ["*const u8", "usize"], "&mut [u8; READER]": ["*mut u8"]}
 C = {
     "uint8_t": "u8", "uint16_t": "u16", "uint32_t": "u32", "int32_t": "i32", "size_t": "usize", "bool": "bool",
-    "uint8_t *": "*mut u8", "const uint8_t *": "*const u8",
+    "double": "f64", "uint8_t *": "*mut u8", "const uint8_t *": "*const u8",
 }
 
-# the crates that have the structs which the exports hand back
-STRUCTS = ["ffi", "intake"]
+# the crates that have the structs which the exports hand back, and those inside of them; and the Rust files, the declarations' first
+STRUCTS = ["ffi", "intake", "fields", "orbit", "ffi_orbit"]
+RUST_STRUCTS = [SYS, RUST + "orbit.rs"]
+
+# the code's names of structs that are others outside, where they are for those who read them
+RENAMED_STRUCTS = {"OrbitRead": "Orbit", "TimingRead": "Timing"}
 
 # the code's names of refusals that are others outside, where they could be taken for each other or for an unlisted number
 RENAMED = {"NoTime": "TowTooLarge", "OutOfTime": "TimeArithmetic", "Unknown": "UnknownCode"}
 
 # the numbers of an input of records, which no call on a room answers: the crate that has each, and its name there
 OF_INPUT = {"UnknownKind": ("benchlines", "UNKNOWN_KIND"), "CutShort": ("intake", "CUT_SHORT")}
+
+# the numbers that only reading an orbit answers
+OF_ORBIT = {"IssuesDiffer": ("orbit", "ISSUES_DIFFER"), "OtherSatellite": ("orbit", "OTHER_SATELLITE")}
 
 # a constant of the header and of the crate, and the code's: its crate and its name there
 CONSTANTS = {
@@ -38,10 +48,11 @@ CONSTANTS = {
     "MOST_SUBFRAMES": ("gst", "MOST_SUBFRAMES"), "READER_BYTES": ("intake", "READER"), "LONGEST_LINE": ("lines", "LONGEST_LINE"),
 }
 
-# the definition of crates/paper that has the order of a call's refusals
+# the definition of crates/paper that has the order of a call's refusals, and the family where it goes by that
 ORDERS = {
-    "fresh": "freshNumber", "feed": "feedNumber", "candidate": "candidateNumber", "tag": "tagNumber",
-    "get_ced_and_status": "askNumber", "get_timing_parameters": "askNumber", "reset_authbits": "resetNumber",
+    "fresh": ("freshNumber", None), "feed": ("feedNumber", None), "candidate": ("candidateNumber", None), "tag": ("tagNumber", None),
+    "get_ced_and_status": ("askNumber", None), "get_timing_parameters": ("askNumber", None), "reset_authbits": ("resetNumber", None),
+    "get_orbit": ("numbersNumber", "CED"), "get_timing_numbers": ("numbersNumber", "Timing"),
 }
 
 # the codes of the header and of the crate, whose names are galileo-osnma's
@@ -83,42 +94,41 @@ def structs_like_rust(text):
 
 
 def of_rattle():
-    text, calls, structs = code_of("ffi") + code_of("ffi_intake"), {}, {}
+    text, calls, structs = "".join(code_of(crate) for crate in EXPORTS), {}, {}
     pattern = r"#\[no_mangle\]\s*pub extern \"C\" fn (\w+)\((.*?)\)\s*(?:->\s*(?:\w+::)?(\w+))?\s*(?:requires|ensures|\{)"
     for name, parameters, result in re.findall(pattern, text, re.S):
         types = []
         for p in split(parameters):
             kind = p.split(":", 1)[1].strip()
             types += RATTLE.get(kind, [kind])
-        calls[name] = (types, result)
+        calls[name] = (types, RENAMED_STRUCTS.get(result, result))
     for crate in STRUCTS:
-        structs.update(structs_like_rust(code_of(crate)))
+        structs.update({RENAMED_STRUCTS.get(n, n): fields for n, fields in structs_like_rust(code_of(crate)).items()})
     return calls, structs
 
 
-def of_rust(text):
-    calls = {}
-    for name, parameters, result in re.findall(r"pub fn (\w+)\((.*?)\)\s*(?:->\s*(\w+))?;", text, re.S):
+def of_rust():
+    calls, structs = {}, {}
+    for name, parameters, result in re.findall(r"pub fn (\w+)\((.*?)\)\s*(?:->\s*(\w+))?;", without_comments(read(SYS)), re.S):
         calls[name] = ([p.split(":", 1)[1].strip() for p in split(parameters)], result)
-    return calls, structs_like_rust(text)
+    for file in RUST_STRUCTS:
+        structs.update(structs_like_rust(without_comments(read(file))))
+    return calls, structs
 
 
 def c_type(text):
     text = " ".join(text.replace("*", " * ").split())
-    return C.get(text, text)
+    return camel(text[len("dawnstook_"):]) if text.startswith("dawnstook_") else C.get(text, text)
 
 
 def of_header(text):
-    def named(name):
-        return camel(name[len("dawnstook_"):]) if name.startswith("dawnstook_") else C.get(name, name)
-
     calls, structs = {}, {}
     for body, name in re.findall(r"typedef struct \w+ \{(.*?)\} (\w+);", text, re.S):
         fields = [f.strip() for f in body.split(";") if f.strip()]
-        structs[named(name)] = [(f.split()[-1], c_type(" ".join(f.split()[:-1]))) for f in fields]
+        structs[c_type(name)] = [(f.split()[-1], c_type(" ".join(f.split()[:-1]))) for f in fields]
     for result, name, parameters in re.findall(r"^(\w+) (dawnstook_\w+)\(([^{}]*?)\);", text, re.S | re.M):
         types = [c_type(re.fullmatch(r"(.*?)(\w+)", p, re.S).group(1)) for p in split(parameters)]
-        calls[name] = (types, named(result))
+        calls[name] = (types, c_type(result))
     return calls, structs
 
 
@@ -221,10 +231,10 @@ def tag_lengths(text, pattern):
 
 
 def deepest_stacks():
-    """Of the table of docs/SPEED.md: the largest number of the calls, and that of a reader's."""
+    """Of the table of docs/SPEED.md: the largest number of the calls, that of a reader's and that of those that read numbers."""
     rows = re.search(r"\| stack of a call.*?(?=\| code and constants)", read("docs/SPEED.md"), re.S).group(0)
-    calls, reader = rows.split("| a part of an input", 1)
-    return [max(int(n) for n in re.findall(r"\| (\d+) \|$", part, re.M)) for part in (calls, reader)]
+    parts = re.split(r"^\| (?:a part of an input|an orbit)", rows, flags=re.M)
+    return [max(int(n) for n in re.findall(r"\| (\d+) \|$", part, re.M)) for part in parts]
 
 
 def behind(tokens, i):
@@ -238,12 +248,15 @@ def behind(tokens, i):
 
 
 def order_of(name, bodies):
-    """The numbers of a nest of `unless TEST NUMBER LATER`, in the order of their tests."""
+    """The numbers of a nest of `unless TEST NUMBER LATER`, in the order of their tests. A number may be that of a call, under a name that
+    stands before the nest: `let k = CALL in unless TEST k LATER` has the numbers of CALL there."""
     tokens, order, i = re.findall(r"[()]|[^\s()]+", bodies[name]), [], 0
+    calls = [tokens[at + 1] for at, token in enumerate(tokens) if token == "let" and tokens[at + 3] in bodies]
     while i < len(tokens):
         if tokens[i] == "unless":
             i = behind(tokens, i + 1)
-            order.append(int(tokens[i]))
+            if tokens[i] not in calls:
+                order.append(int(tokens[i]))
         elif tokens[i] in bodies:
             order += order_of(tokens[i], bodies)
         i += 1
@@ -251,9 +264,10 @@ def order_of(name, bodies):
 
 
 def orders_of_definitions():
-    text = re.sub(r"--[^\n]*", "", read("crates/paper/specs/Answer.antt"))
+    text = "\n\n".join(re.sub(r"--[^\n]*", "", read(f"crates/paper/specs/{file}.antt")) for file in ("Answer", "Orbit"))
     bodies = dict(re.findall(r"^((?:until|from)\w+|\w+Number) [^:=\n]*=(.*?)(?=\n\n|\Z)", text, re.S | re.M))
-    return {call: order_of(name, bodies) for call, name in ORDERS.items()}
+    families = {f: dict(re.findall(rf"^(\w+Tests) {f} [^:=\n]*=(.*)$", text, re.M)) for f in ("CED", "Timing")}
+    return {call: order_of(name, dict(bodies, **families.get(family, {}))) for call, (name, family) in ORDERS.items()}
 
 
 def orders_of_header(text):
@@ -284,8 +298,8 @@ class Held:
 def calls(held, header):
     exports = of_rattle()
     if not exports[0]:
-        sys.exit("outside: no exports found in crates/ffi and crates/ffi_intake")
-    for where, other in ((HEADER, of_header(header)), (SYS, of_rust(without_comments(read(SYS))))):
+        sys.exit("outside: no exports found in crates/" + ", crates/".join(EXPORTS))
+    for where, other in ((HEADER, of_header(header)), (SYS, of_rust())):
         before = held.wrong
         for i, what in enumerate(("call", "struct")):
             for name in sorted(set(exports[i]) | set(other[i])):
@@ -301,14 +315,15 @@ def numbers(held, header):
     if len(code) < 2:
         sys.exit("outside: no numbers found in crates/refusals")
     in_code = constants_of_code()
-    code.update({n: constant_of(*at, in_code) for n, at in OF_INPUT.items()})
+    own = len(code)
+    code.update({n: constant_of(*at, in_code) for n, at in {**OF_INPUT, **OF_ORBIT}.items()})
     held.same(f"{HEADER}: numbers", {camel(n): v for n, v in of_c.items()}, dict(Done=0, **code))
     held.same(f"{RUST}refusal.rs: numbers", {n: v for n, (v, _) in of_rust_table.items()}, code)
     held.same(f"{HEADER}: numbers that have a text", sorted(texts), sorted(of_c))
     held.same(f"{RUST}refusal.rs: texts", {n: t for n, (_, t) in of_rust_table.items()},
               {camel(n): t for n, t in texts.items() if n != "DONE"})
-    own = len(code) - len(OF_INPUT)
-    held.done(before, f"header and crate have the {own} numbers of crates/refusals and the {len(OF_INPUT)} of an input, and one text for each")
+    held.done(before, f"header and crate have the {own} numbers of crates/refusals, the {len(OF_INPUT)} of an input and the {len(OF_ORBIT)} of "
+              "an orbit, and one text for each")
 
 
 def orders(held, _):
@@ -333,13 +348,22 @@ def codes(held, header):
     held.done(before, "header and crate have the same codes, the kinds those of crates/limits")
 
 
+def scales(held, _):
+    """The k of each scaled field, in the documentation of the crate's whole numbers."""
+    before = held.wrong
+    code = {n: k for n, k in constants_of_code().items() if re.match(r"orbit\.Scaled(Timing)?\.", n)}
+    said = re.findall(r"\[`(Scaled|ScaledTiming)::(\w+)`\] times 2\^(\d+)\.", read(RUST + "orbit.rs"))
+    held.same(f"{RUST}orbit.rs: powers of two", {f"orbit.{kind}.{name.upper()}": int(k) for kind, name, k in said}, code)
+    held.done(before, f"the crate has the powers of two of the {len(code)} scaled fields as crates/orbit has them")
+
+
 def constants(held, header):
     before = held.wrong
     code = constants_of_code()
     expected = {n: constant_of(*at, code) for n, at in CONSTANTS.items()}
     limits = code_of("limits")
     expected["MOST_COP"] = int(re.search(r"\bcop <= (\d+)", limits).group(1))
-    expected["STACK_BYTES"], expected["READER_STACK_BYTES"] = deepest_stacks()
+    expected["STACK_BYTES"], expected["READER_STACK_BYTES"], expected["NUMBERS_STACK_BYTES"] = deepest_stacks()
     of_c, rust = constants_of_header(header), without_comments(read(RUST + "limits.rs"))
     held.same(f"{HEADER}: constants", {n: v for n, v in of_c.items() if not n.startswith("VERSION_")}, expected)
     held.same(f"{RUST}limits.rs: constants", constants_of_rust(rust), expected)
@@ -357,7 +381,7 @@ def constants(held, header):
 
 def main():
     held, header = Held(), without_comments(read(HEADER))
-    for part in (calls, numbers, orders, codes, constants):
+    for part in (calls, numbers, orders, scales, codes, constants):
         part(held, header)
     sys.exit(1 if held.wrong else 0)
 

@@ -42,10 +42,12 @@ pub const MOST_ROOM: usize = room_size(MOST_ROWS, MOST_SLOTS);
 pub const READER_BYTES: usize = 28;
 /// The longest line that a record may have, with its line feed.
 pub const LONGEST_LINE: usize = 189;
-/// The stack of the archive's deepest call with its return address, as measured (docs/SPEED.md).
+/// The stack of the archive's deepest call with its arguments, result and return address, as measured (docs/SPEED.md).
 pub const STACK_BYTES: usize = 352;
 /// The same for the two calls of a [`crate::Reader`].
 pub const READER_STACK_BYTES: usize = 888;
+/// The same for [`crate::Store::get_orbit`] and [`crate::Store::get_timing_numbers`].
+pub const NUMBERS_STACK_BYTES: usize = 960;
 
 /// The bytes that a store of `d` rows and `n` slots takes; 0 for sizes that are not allowed.
 pub const fn room_size(d: u8, n: u8) -> usize {

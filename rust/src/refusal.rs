@@ -67,6 +67,8 @@ refusals! {
     Dummy = 16: "COP 0, nothing added",
     VerdictNo = 17: "the tag is not right, nothing added",
     StatusAddsNothing = 18: "status reserved or don't use, nothing added",
+    IssuesDiffer = 21: "the IODnav of words 1 to 4 are not all equal",
+    OtherSatellite = 22: "word 4 names another satellite",
 }
 
 impl core::error::Error for Refusal {}

@@ -1,4 +1,6 @@
-//! The archive's exports, a slice as a pointer and a length, a reader as a pointer alone. `tools/outside` checks them against crates/ffi.
+//! The archive's exports, a slice as a pointer and a length, a reader as a pointer alone. `tools/outside` checks them against crates/ffi,
+//! ffi_intake and ffi_orbit.
+use crate::orbit::{Scaled, ScaledTiming, Word1, Word10, Word2, Word3, Word4, Word5, Word6};
 
 #[repr(C)]
 pub struct Taken {
@@ -56,6 +58,31 @@ pub struct Closed {
     pub said: usize,
 }
 
+#[repr(C)]
+pub struct Orbit {
+    pub number: u8,
+    pub authbits: u16,
+    pub week: u16,
+    pub time: u32,
+    pub word1: Word1,
+    pub word2: Word2,
+    pub word3: Word3,
+    pub word4: Word4,
+    pub word5: Word5,
+    pub scaled: Scaled,
+}
+
+#[repr(C)]
+pub struct Timing {
+    pub number: u8,
+    pub authbits: u16,
+    pub week: u16,
+    pub time: u32,
+    pub word6: Word6,
+    pub word10: Word10,
+    pub scaled: ScaledTiming,
+}
+
 extern "C" {
     // the crate's own room_size is a const fn, which the tests hold to this
     #[allow(dead_code)]
@@ -79,6 +106,8 @@ extern "C" {
     ) -> Taken;
     pub fn dawnstook_get_ced_and_status(room: *const u8, room_len: usize, sat: u8) -> Told;
     pub fn dawnstook_get_timing_parameters(room: *const u8, room_len: usize, sat: u8) -> Told;
+    pub fn dawnstook_get_orbit(room: *const u8, room_len: usize, sat: u8) -> Orbit;
+    pub fn dawnstook_get_timing_numbers(room: *const u8, room_len: usize, sat: u8) -> Timing;
     pub fn dawnstook_reset_authbits(room: *mut u8, room_len: usize) -> u8;
     pub fn dawnstook_add_seconds(week: u16, time: u32, seconds: i32) -> Moment;
     pub fn dawnstook_add_subframes(week: u16, time: u32, subframes: i32) -> Moment;

@@ -10,10 +10,15 @@ fn at(week: u16, time: u32) -> Gst {
 
 /// A store with all the words of E01, of the subframe that starts at week 1177, 175740.
 fn filled() -> [u8; ROOM] {
+    filled_with(|kind| kind)
+}
+
+/// The same with a byte of its own in the words of each type.
+fn filled_with(byte: impl Fn(u8) -> u8) -> [u8; ROOM] {
     let mut room = [0; ROOM];
     let mut store = Store::new(&mut room, 2, 2).unwrap();
     for kind in 1..=5 {
-        let mut word = [kind; WORD_BYTES];
+        let mut word = [byte(kind); WORD_BYTES];
         word[0] = kind << 2;
         store.feed(&word, Svn::new(1).unwrap(), at(1177, 175_740), InavBand::E1B).unwrap();
     }
@@ -37,6 +42,15 @@ fn given() -> Vec<u8> {
     Store::resume(&mut room).candidate(tag()).unwrap().to_vec()
 }
 
+/// What reading an orbit refuses with once a tag is taken.
+fn unreadable(mut room: [u8; ROOM]) -> Refusal {
+    let mut store = Store::resume(&mut room);
+    let given = store.candidate(tag()).unwrap().to_vec();
+    assert_eq!(store.tag(tag(), 40, NmaStatus::Operational, &given, true), Ok(1));
+    assert!(store.get_ced_and_status(tag().svn).is_ok());
+    store.get_orbit(tag().svn).unwrap_err()
+}
+
 /// What a part of an input and the end behind it come to, on a room without a store.
 fn read(bytes: &[u8]) -> (Result<(), Refusal>, Result<(), Refusal>) {
     let (mut reader, mut room) = (Reader::new(), [0; ROOM]);
@@ -55,6 +69,8 @@ fn every_refusal_once() {
         (2, Store::new(&mut [], 1, 1).unwrap_err()),
         (3, Store::resume(&mut blank).reset_authbits().unwrap_err()),
         (3, Store::resume(&mut []).get_ced_and_status(tag().svn).unwrap_err()),
+        (3, Store::resume(&mut []).get_orbit(tag().svn).unwrap_err()),
+        (3, Store::resume(&mut []).get_timing_numbers(tag().svn).unwrap_err()),
         (4, Svn::try_from(0).unwrap_err()),
         (4, Svn::try_from(MOST_SATELLITES + 1).unwrap_err()),
         (4, Svn::try_from(-1).unwrap_err()),
@@ -76,12 +92,16 @@ fn every_refusal_once() {
         (11, refused(|store| store.tag(tag(), 40, operational, &[], true))),
         (12, refused(|store| store.get_ced_and_status(tag().svn).map(|_| ()))),
         (12, refused(|store| store.get_timing_parameters(tag().svn).map(|_| ()))),
+        (12, refused(|store| store.get_orbit(tag().svn))),
+        (12, refused(|store| store.get_timing_numbers(tag().svn))),
         (13, read(&[3, 0, 3]).0.unwrap_err()),
         (14, read(&[3, 6, 2]).1.unwrap_err()),
         (16, refused(|store| store.tag(Tag { cop: 0, ..tag() }, 40, operational, &given(), true))),
         (17, refused(|store| store.tag(tag(), 40, operational, &given(), false))),
         (18, refused(|store| store.tag(tag(), 40, NmaStatus::Reserved, &given(), true))),
         (18, refused(|store| store.tag(tag(), 40, NmaStatus::DontUse, &given(), true))),
+        (21, unreadable(filled())),
+        (22, unreadable(filled_with(|_| 0))),
     ];
     assert_eq!(blank, [7; ROOM]);
     for (number, why) in seen {
@@ -89,7 +109,7 @@ fn every_refusal_once() {
     }
     let numbers = |all: &[Refusal]| all.iter().map(|why| why.number()).collect::<BTreeSet<_>>();
     assert_eq!(numbers(&seen.map(|(_, why)| why)), numbers(Refusal::ALL));
-    assert_eq!(numbers(Refusal::ALL), (1..=14).chain(16..=18).collect());
+    assert_eq!(numbers(Refusal::ALL), (1..=14).chain(16..=18).chain(21..=22).collect());
 }
 
 #[test]
