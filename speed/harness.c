@@ -39,9 +39,12 @@ static void same_room(void) {
     NEED(memcmp(room, others, size) == 0);
 }
 
+/* Words 1 to 4 have one IODnav, and word 4 names its satellite, so that an orbit can be read. */
 static void make_word(uint8_t *word, uint8_t sat, uint8_t type) {
     for (int i = 0; i < 16; i++) word[i] = (uint8_t)(sat * 37 + type * 11 + i * 5);
     word[0] = (uint8_t)((type << 2) | (sat & 3));
+    if (type >= 1 && type <= 4) word[1] = (uint8_t)(sat * 37);
+    if (type == 4) word[2] = (uint8_t)(sat << 2 | (word[2] & 3));
 }
 
 static bool rust_side;
@@ -120,6 +123,23 @@ static void ced_tag(void) { for (int i = 0; i < CALLS; i++) tag(some(i), 0, now 
 static void timing_tag(void) { for (int i = 0; i < CALLS; i++) tag(some(i), 4, now + 30, false); }
 static void ask_ced(void) { for (int i = 0; i < CALLS; i++) ask(false, some(i), i); }
 static void ask_timing(void) { for (int i = 0; i < CALLS; i++) ask(true, some(i), i); }
+/* The port's own, which the Rust has no call for. */
+static void read_orbit(void) {
+    dawnstook_orbit orbit;
+    if (rust_side) return;
+    for (int i = 0; i < CALLS; i++) {
+        COUNT(orbit = dawnstook_get_orbit(room, size, some(i)));
+        NEED(orbit.number == 0 && orbit.word4.svid == some(i));
+    }
+}
+static void read_timing(void) {
+    dawnstook_timing timing;
+    if (rust_side) return;
+    for (int i = 0; i < CALLS; i++) {
+        COUNT(timing = dawnstook_get_timing_numbers(room, size, some(i)));
+        NEED(timing.number == 0);
+    }
+}
 static void test(void) {
     uint8_t w[16] = {0}, number = 0;
     if (rust_side) return;
@@ -157,6 +177,9 @@ static void on_feed(void) { uint8_t w[16]; make_word(w, 1, 1); dawnstook_feed(ro
 static void on_candidate(void) { dawnstook_candidate(room, size, 1, 0, 1, WEEK, now + 30); }
 static void on_tag(void) { dawnstook_tag(room, size, 1, 0, 1, 40, 2, WEEK, now + 30, given, 69, true); }
 static void on_ask(void) { dawnstook_get_ced_and_status(room, size, 1); dawnstook_get_timing_parameters(room, size, 1); }
+static uint8_t read_number;
+static void on_orbit(void) { read_number = dawnstook_get_orbit(room, size, 1).number; }
+static void on_timing_numbers(void) { read_number = dawnstook_get_timing_numbers(room, size, 1).number; }
 static void on_reset(void) { dawnstook_reset_authbits(room, size); }
 static size_t needed(void (*body)(void)) {
     size_t i = 0;
@@ -182,6 +205,11 @@ static void stacks(void) {
     now -= 30;
     printf(", word %zu, candidate %zu", move > stay ? move : stay, needed(on_candidate) - none);
     printf(", tag %zu, ask %zu", needed(on_tag) - none, needed(on_ask) - none);
+    tag(1, 4, now + 30, false);
+    printf(", read orbit %zu", needed(on_orbit) - none);
+    NEED(read_number == 0);
+    printf(", read timing numbers %zu", needed(on_timing_numbers) - none);
+    NEED(read_number == 0);
     printf(", reset %zu\n", needed(on_reset) - none);
 }
 
@@ -200,6 +228,8 @@ int main(int argc, char **argv) {
     part("timing tag", timing_tag, CALLS);
     part("ask CED", ask_ced, CALLS);
     part("ask timing", ask_timing, CALLS);
+    part("read orbit", read_orbit, CALLS);
+    part("read timing numbers", read_timing, CALLS);
     part("word, new subframe", new_subframe, CALLS);
     part("the room's test", test, CALLS);
     for (int k = 0; k < 2; k++) {

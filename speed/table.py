@@ -22,9 +22,11 @@ def counts(size):
 
 
 CALLS = [
-    "word, first fill", "same word again", "word, new subframe", "CED tag", "timing tag", "ask CED", "ask timing", "the room's test",
-    "the room's test, fresh",
+    "word, first fill", "same word again", "word, new subframe", "CED tag", "timing tag", "ask CED", "ask timing", "read orbit",
+    "read timing numbers", "the room's test", "the room's test, fresh",
 ]
+# the port's own calls, and the asking whose data each reads
+READINGS = {"read orbit": "ask CED", "read timing numbers": "ask timing"}
 YARD = ["yard, words", "yard, tags", "yard, askings"]
 
 
@@ -48,6 +50,9 @@ for size in sizes:
     for part in CALLS:
         if part.startswith("the room's test"):
             print("| %s | %.0f | none | %.1f a record |" % (part, each(part, "port"), each(part, "port") / (2 * d * n)))
+        elif part in READINGS:
+            asking = each(READINGS[part], "port")
+            print("| %s | %.0f | none | %.2f of %s |" % (part, each(part, "port"), each(part, "port") / asking, READINGS[part]))
         else:
             line(part, each(part, "port"), each(part, "rust"))
     for part in YARD:
