@@ -2,11 +2,12 @@
 // and who reads no numbers links none of this. Beside a refusal every number is 0. What is owed with a pointer from C stands
 // in include/dawnstook.h.
 ghost use mathlib.Core.Path.{_≡_};
+ghost use lib.ListN.{length};
 ghost use Rattle.paper.specs.Number.{refused};
-ghost use Rattle.paper.specs.Record.{CED, Timing as TIMING};
+ghost use Rattle.paper.specs.Record.{CED, Timing as TIMING, familyIf};
 ghost use Rattle.paper.specs.Orbit.{numbersAnswer, numbersData};
 ghost use Rattle.orbit.specs.Numbers.{orbitFrom, timingFrom};
-ghost use Rattle.orbit.specs.Got.{placedAnswer};
+ghost use Rattle.orbit.specs.Got.{placedAnswer, Within, partPlaced};
 ghost use Rattle.ffi_orbit.specs.Handed.{headOf, orbitHanded, timingHanded};
 use fields::Word1;
 use fields::Word2;
@@ -85,6 +86,19 @@ fn head_of(placed: Placed) -> Head
     }
 }
 
+// The data that is to be read, or the empty part.
+fn part_placed(room: &[u8], timing: bool, placed: Placed) -> &[u8]
+    requires { ⌜ Within (familyIf timing) placed (length (now room)) ⌝ }
+    ensures { λ r. ⌜ now r ≡ partPlaced (familyIf timing) placed (now (room .entry)) ⌝ }
+{
+    match placed {
+        Placed::At(at, _, _) => lookup::data_of(room, at, timing),
+        Placed::IssuesDiffer => &room[0..0],
+        Placed::OtherSatellite => &room[0..0],
+        Placed::Refused(_) => &room[0..0],
+    }
+}
+
 // Authenticated ephemeris, clock and status of a satellite, as numbers.
 #[no_mangle]
 pub extern "C" fn dawnstook_get_orbit(room: &[u8], sat: u8) -> OrbitRead
@@ -92,7 +106,7 @@ pub extern "C" fn dawnstook_get_orbit(room: &[u8], sat: u8) -> OrbitRead
 {
     let placed = orbit::place(room, false, Svn(sat));
     let head = head_of(placed);
-    let all = orbit::orbit_of(orbit::part_placed(room, false, placed));
+    let all = orbit::orbit_of(part_placed(room, false, placed));
     let word1 = all.word1;
     let word2 = all.word2;
     let word3 = all.word3;
@@ -120,7 +134,7 @@ pub extern "C" fn dawnstook_get_timing_numbers(room: &[u8], sat: u8) -> TimingRe
 {
     let placed = orbit::place(room, true, Svn(sat));
     let head = head_of(placed);
-    let all = orbit::timing_of(orbit::part_placed(room, true, placed));
+    let all = orbit::timing_of(part_placed(room, true, placed));
     let word6 = all.word6;
     let word10 = all.word10;
     let scaled = all.scaled;

@@ -11,8 +11,6 @@ use Rattle.orbit.proofs.timing_of.Reads as timing-of
 use Rattle.orbit.proofs.timing_of.Kinds as timing-of-kinds
 use Rattle.orbit.proofs.place.Reads as place
 use Rattle.orbit.proofs.place.Kinds as place-kinds
-use Rattle.orbit.proofs.part_placed.Reads as part-placed
-use Rattle.orbit.proofs.part_placed.Kinds as part-placed-kinds
 use Rattle.orbit.proofs.get_orbit.Reads as get-orbit
 use Rattle.orbit.proofs.get_orbit.Kinds as get-orbit-kinds
 use Rattle.orbit.proofs.get_timing_numbers.Reads as get-timing-numbers
@@ -38,13 +36,6 @@ pub place-determined :
     → place.Post κs a r e → place.Post κs a r' e'
     → r ≡ r'
 place-determined κs a r r' e e' p q = placed-one r r' (p .0 ∙ sym (q .0)) (p .1 ∙ sym (q .1))
-
-pub part-placed-determined :
-    (κs : Lfts 1) (a : Dens κs part-placed-kinds.ps) (r r' : resT part-placed-kinds.r κs .Denot)
-    (e e' : AtExit (endedOf 1 part-placed-kinds.ps part-placed-kinds.r) κs)
-    → part-placed.Post κs a r e → part-placed.Post κs a r' e'
-    → r .now ≡ r' .now
-part-placed-determined κs a r r' e e' p q = p ∙ sym q
 
 pub get-orbit-determined :
     (κs : Lfts 1) (a : Dens κs get-orbit-kinds.ps) (r r' : resT get-orbit-kinds.r κs .Denot)

@@ -2,11 +2,10 @@
 // scaled by a power of two as doubles too. The data is looked into only where asking hands it out.
 ghost use mathlib.Core.Path.{_≡_};
 ghost use lib.Dec.{eqb};
-ghost use lib.ListN.{length};
 ghost use Rattle.paper.specs.Record.{CED, Timing as TIMING, familyIf};
 ghost use Rattle.paper.specs.Orbit.{oneIssue, svidOf, numbersAnswer, numbersData};
 ghost use Rattle.orbit.specs.Numbers.{scaledOf, scaledTimingOf, orbitFrom, timingFrom};
-ghost use Rattle.orbit.specs.Got.{placedAnswer, placePlaced, numbersPlace, Within, partPlaced, gotAnswer, gotOrbit, gotTimingAnswer, gotTiming};
+ghost use Rattle.orbit.specs.Got.{placedAnswer, placePlaced, numbersPlace, gotAnswer, gotOrbit, gotTimingAnswer, gotTiming};
 use ask::Answered;
 use fields::Word1;
 use fields::Word2;
@@ -290,19 +289,6 @@ pub fn place(room: &[u8], timing: bool, svn: Svn) -> Placed
             Placed::At(at, authbits, gst)
         }
         Answered::Refused(why) => Placed::Refused(why),
-    }
-}
-
-// The data that is to be read, or the empty part.
-pub fn part_placed(room: &[u8], timing: bool, placed: Placed) -> &[u8]
-    requires { ⌜ Within (familyIf timing) placed (length (now room)) ⌝ }
-    ensures { λ r. ⌜ now r ≡ partPlaced (familyIf timing) placed (now (room .entry)) ⌝ }
-{
-    match placed {
-        Placed::At(at, _, _) => lookup::data_of(room, at, timing),
-        Placed::IssuesDiffer => &room[0..0],
-        Placed::OtherSatellite => &room[0..0],
-        Placed::Refused(_) => &room[0..0],
     }
 }
 

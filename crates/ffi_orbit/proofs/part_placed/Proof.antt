@@ -2,10 +2,10 @@
 use mathlib.Core.Path.{sym, ap, subst, _∙_}
 use lib.ListN.{length}
 use Rattle.paper.specs.Record.{familyIf}
 use Rattle.orbit.specs.Got.{Within, partPlaced}
 use borrow.Author.Needs.{needs}
-use Rattle.orbit.proofs.part_placed.Statement.{statement}
-use Rattle.orbit.proofs.part_placed.Tie as tie
+use Rattle.ffi_orbit.proofs.part_placed.Statement.{statement}
+use Rattle.ffi_orbit.proofs.part_placed.Tie as tie
 
 enum-known-placed : tie.Need-enum-known-placed
 enum-known-placed c = search needs
