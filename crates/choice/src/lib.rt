@@ -1,20 +1,20 @@
-// Which record of a row a word goes to (STORE 10.5): the place of the greatest key, and of equal ones the last.
-// Only the promises of `choose_ced` and `choose_timing` are for callers.
+// Which record of a row a word goes to (STORE 10.5): this satellite's, else one without a satellite, else the oldest; of equals the last.
+// Searches go from the end, break with their slot and refuse on the last. Only the promises of `choose_ced` and `choose_timing` are for
+// callers.
 ghost use mathlib.Core.Path.{_≡_};
 ghost use Prim.Native.Nat.{_+_, _≤_, _<_};
 ghost use lib.ListN.{length};
-ghost use Rattle.paper.specs.Record.{familyIf, size, CED, Timing as TIMING};
-ghost use Rattle.paper.specs.Room.{mostSlots, slotSize, rowSize, recordOf};
-ghost use Rattle.paper.specs.Feed.{key, chosen};
+ghost use Rattle.paper.specs.Record.{familyIf, CED, Timing as TIMING};
+ghost use Rattle.paper.specs.Room.{mostSlots, slotSize, rowSize};
+ghost use Rattle.paper.specs.Feed.{chosen};
 ghost use Rattle.choice.specs.Last.{isOf, lastOf};
+ghost use Rattle.choice.specs.Cases.{ageOf, isOlder, lastOldest};
 use records::Ced;
 use records::SATELLITE_AT;
 use records::Timing;
 
-// STORE 10.5: the keys of a record of the satellite, and of one that has none
-const SAME: u16 = 257;
-
-const NONE: u16 = 256;
+// STORE 6.2: what stands for the satellite of a record that has none
+const UNCLAIMED: u8 = 0;
 
 // The slot that a search found.
 enum Slot {
@@ -28,84 +28,79 @@ fn last_of(row: &[u8], at: usize, n: usize, sat: u8) -> Slot
     ensures { λ r. ⌜ r ≡ lastOf (isOf (now (row .entry)) at sat) n ⌝ }
 {
     let mut left = n;
-    let slot = loop {
+    let last = loop {
         if left == 0 {
             return Slot::Nowhere;
         }
-        left -= 1;
-        if row[rows::slot_start(left) + at] == sat {
-            break left;
+        let slot = left - 1;
+        if row[rows::slot_start(slot) + at] == sat {
+            break slot;
         }
+        left -= 1;
     };
-    Slot::At(slot)
+    Slot::At(last)
 }
 
-fn key_ced(bytes: &[u8], sat: u8) -> u16
-    requires { ⌜ length (now bytes) ≡ size CED ⌝ }
-    ensures { λ r. ⌜ r ≡ key CED sat (now (bytes .entry)) ⌝ }
-{
-    if bytes[SATELLITE_AT] == sat {
-        return SAME;
-    }
-    if bytes[SATELLITE_AT] == 0 {
-        return NONE;
-    }
-    numbers::as_u16(Ced::greatest(Ced::ages(bytes)))
-}
-
-fn key_timing(bytes: &[u8], sat: u8) -> u16
-    requires { ⌜ length (now bytes) ≡ size TIMING ⌝ }
-    ensures { λ r. ⌜ r ≡ key TIMING sat (now (bytes .entry)) ⌝ }
-{
-    if bytes[SATELLITE_AT] == sat {
-        return SAME;
-    }
-    if bytes[SATELLITE_AT] == 0 {
-        return NONE;
-    }
-    numbers::as_u16(Timing::greatest(Timing::ages(bytes)))
-}
-
-// The key of the record of slot i.
-fn key_at(row: &[u8], timing: bool, i: usize, sat: u8) -> u16
+// How old the record of slot i is: its greatest age.
+fn age_of(row: &[u8], timing: bool, i: usize) -> u8
     requires { ⌜ (i < mostSlots) × (rowSize (i + 1) ≤ length (now row)) ⌝ }
-    ensures { λ r. ⌜ r ≡ key (familyIf timing) sat (recordOf (familyIf timing) i (now (row .entry))) ⌝ }
+    ensures { λ r. ⌜ r ≡ ageOf (familyIf timing) (now (row .entry)) i ⌝ }
 {
     let at = rows::record_start(timing, i);
     if timing {
-        return key_timing(&row[at..at + Timing::SIZE], sat);
+        return Timing::greatest(Timing::ages(&row[at..at + Timing::SIZE]));
     }
-    key_ced(&row[at..at + Ced::SIZE], sat)
+    Ced::greatest(Ced::ages(&row[at..at + Ced::SIZE]))
 }
 
-// STORE 10.5, the last of equals: a key that is no less takes the place.
-fn by_keys(row: &[u8], timing: bool, n: usize, sat: u8) -> usize
+// The last of n slots whose record is older than so much.
+fn last_older(row: &[u8], timing: bool, n: usize, age: u8) -> Slot
     requires { ⌜ (n ≤ mostSlots) × (rowSize n ≤ length (now row)) ⌝ }
-    ensures { λ r. ⌜ r ≡ chosen (familyIf timing) sat n (now (row .entry)) ⌝ }
+    ensures { λ r. ⌜ r ≡ lastOf (isOlder (familyIf timing) age (now (row .entry))) n ⌝ }
 {
-    let mut best = 0;
-    let mut top = 0;
-    let mut i = 0;
-    while i < n {
-        let key = key_at(row, timing, i, sat);
-        if top <= key {
-            top = key;
-            best = i;
+    let mut left = n;
+    let last = loop {
+        if left == 0 {
+            return Slot::Nowhere;
         }
-        i += 1;
-    }
-    best
+        let i = left - 1;
+        if age < age_of(row, timing, i) {
+            break i;
+        }
+        left -= 1;
+    };
+    Slot::At(last)
 }
 
-// A record of this satellite has the greatest key there is, so the last of them is looked for first, from the end.
+// The last of n slots whose record is oldest: from the last slot on, as long as one before it is older, that one.
+fn last_oldest(row: &[u8], timing: bool, n: usize) -> usize
+    requires { ⌜ (1 ≤ n) × (n ≤ mostSlots) × (rowSize n ≤ length (now row)) ⌝ }
+    ensures { λ r. ⌜ lastOldest (familyIf timing) n (now (row .entry)) ≡ Slot.At r ⌝ }
+{
+    let mut slot = n - 1;
+    let oldest = loop {
+        let age = age_of(row, timing, slot);
+        let Slot::At(older) = last_older(row, timing, slot, age) else {
+            break slot;
+        };
+        slot = older;
+    };
+    oldest
+}
+
+// STORE 10.5, in three cases.
 fn choose(row: &[u8], timing: bool, n: usize, sat: u8) -> usize
     requires { ⌜ (1 ≤ n) × (n ≤ mostSlots) × (rowSize n ≤ length (now row)) ⌝ }
     ensures { λ r. ⌜ (r ≡ chosen (familyIf timing) sat n (now (row .entry))) × (r < n) ⌝ }
 {
-    let Slot::At(slot) = last_of(row, layout::base(timing) + SATELLITE_AT, n, sat) else {
-        return by_keys(row, timing, n, sat);
-    };
-    slot
+    let at = layout::base(timing) + SATELLITE_AT;
+    if let Slot::At(own) = last_of(row, at, n, sat) {
+        return own;
+    }
+    if let Slot::At(unclaimed) = last_of(row, at, n, UNCLAIMED) {
+        return unclaimed;
+    }
+    last_oldest(row, timing, n)
 }
 
 // The slot of the CED record that a word of the satellite goes to.

@@ -20,8 +20,8 @@ loop-holds c = (omega arith, refl)
 returns : tie.Need-returns Inv-loop μ-loop
 returns c = last-nowhere _ _ _ (c .before .loop .inv .1) (c .if1 .taken)
 
-sub-left : tie.Need-sub-left Inv-loop μ-loop
-sub-left c = omega arith
+sub-slot : tie.Need-sub-slot Inv-loop μ-loop
+sub-slot c = omega arith
 
 slot-start-requires : tie.Need-slot-start-requires Inv-loop μ-loop
 slot-start-requires c κs = omega arith
@@ -31,6 +31,9 @@ add-if2 c = omega arith
 
 shared-slice-read-if2 : tie.Need-shared-slice-read-if2 Inv-loop μ-loop
 shared-slice-read-if2 c = omega arith
+
+sub-left : tie.Need-sub-left Inv-loop μ-loop
+sub-left c = omega arith
 
 loop-less : tie.Need-loop-less Inv-loop μ-loop
 loop-less c = omega arith
@@ -55,10 +58,11 @@ last-of-spec =
     μ-loop
     loop-holds
     returns
-    sub-left
+    sub-slot
     slot-start-requires
     add-if2
     shared-slice-read-if2
+    sub-left
     loop-less
     loop-again
     returns-2)
