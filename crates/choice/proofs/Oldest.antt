@@ -1,8 +1,8 @@
--- The oldest records of a row: none is older, and one is so old. And a search from the end in which an older one takes the place ends at the
--- last of them. Assumes nothing.
+-- The oldest records of a row: none is older, and one is so old. And a search that goes on to an older one before it as long as there is one
+-- ends at the last of them. Assumes nothing.
 use native.Mathlib.Omega.{arith}
 use native.Mathlib.Decide.{ℕ-discrete}
-use mathlib.Core.Path.{_≡_, refl, sym}
+use mathlib.Core.Path.{_≡_, refl, sym, _∙_}
 use mathlib.Core.Logic.{_≢_}
 use mathlib.Core.Bool.{Bool, true, false}
 use mathlib.Core.List.{List}
@@ -10,9 +10,11 @@ use Prim.Native.Nat.{ℕ, zero, suc, _-_, _≤_, _<_, max}
 use borrow.Author.Tests.{eqb-false, eq-eqb, ne-eqb, ltb-true, ltb-false}
 use lib.Dec.{ltb}
 use Rattle.paper.specs.Record.{Family}
-use Rattle.choice.specs.Cases.{ageOf, hasAge, oldestAge, lastOldest}
+use Rattle.choice.specs.Last.{lastOf}
+use Rattle.choice.specs.Cases.{ageOf, hasAge, isOlder, oldestAge, lastOldest}
+use Rattle.choice.specs.declared.Slot.{Slot}
 use Rattle.choice.specs.declared.Slot.the-variants.{At, Nowhere}
-use Rattle.choice.proofs.Search.{last-none, last-is}
+use Rattle.choice.proofs.Search.{last-none, last-says, last-is}
 
 module _ (f : Family) (row : List ℕ) where
   pub none-older : (n i : ℕ) → i < n → ageOf f row i ≤ oldestAge f n row
@@ -36,62 +38,41 @@ module _ (f : Family) (row : List ℕ) where
       let below : (i : ℕ) → i < n → ageOf f row i < age = λ i g. omega (arith, none-older n i g, eqb-false (ageOf f row i) age (last-none _ n e i g)) in
       omega (arith, below 0 (omega arith), oldest-most n (age - 1) (λ i g. omega (arith, below i g)))
 
-  -- where the search stands that has `left` slots to go: slot i is older than those behind it, and no younger than those that it passed before it
-  pub record OldestYet (n i left : ℕ) : Type 0 where
+  -- all behind slot i are younger
+  pub record Younger (n i : ℕ) : Type 0 where
     pub inside : i < n
-    pub passed : left ≤ i
     pub behind : (j : ℕ) → i < j → j < n → ageOf f row j < ageOf f row i
-    pub before : (j : ℕ) → left ≤ j → j < i → ageOf f row j ≤ ageOf f row i
 
-  pub at-the-end : (n : ℕ) → 1 ≤ n → OldestYet n (n - 1) (n - 1)
-  at-the-end n h = record {
-    inside = omega arith;
-    passed = omega arith;
-    behind = λ j g l. absurd (omega arith);
-    before = λ j g l. absurd (omega arith);
-  }
+  pub at-the-end : (n : ℕ) → 1 ≤ n → Younger n (n - 1)
+  at-the-end n h = record { inside = omega arith; behind = λ j g l. absurd (omega arith) }
 
-  no-older : (n i left j : ℕ) → OldestYet n i left → left ≤ j → j < n → ageOf f row j ≤ ageOf f row i
-  no-older n i left j y g l = go (ltb j i) refl (ℕ-discrete j i)
+  -- so a record is no older, if it is not where it stands before it
+  no-older : (n i j : ℕ) → Younger n i → (j < i → ageOf f row j ≤ ageOf f row i) → j < n → ageOf f row j ≤ ageOf f row i
+  no-older n i j y before l = go (ltb j i) refl (ℕ-discrete j i)
     where
       go : (b : Bool) → ltb j i ≡ b → Dec (j ≡ i) → ageOf f row j ≤ ageOf f row i
-      go true t d = y .before j g (ltb-true j i t)
+      go true t d = before (ltb-true j i t)
       go false t (yes d) = rw d (omega arith)
       go false t (no d) = let far = ltb-false j i t in omega (arith, y .behind j (omega arith) l)
 
-  -- the next before it is older, or not
-  pub takes-place : (n i left : ℕ) → OldestYet n i left → 0 < left → ageOf f row i < ageOf f row (left - 1) → OldestYet n (left - 1) (left - 1)
-  takes-place n i left y h older = record {
-    inside = omega (arith, y .inside, y .passed);
-    passed = omega arith;
-    behind = λ j g l. omega (arith, no-older n i left j y (omega arith) l);
-    before = λ j g l. absurd (omega arith);
-  }
+  -- the search for an older one before slot i, and what it found
+  module _ (n i : ℕ) (s : Slot) (y : Younger n i) (q : s ≡ lastOf (isOlder f i row) i) where
+    -- one: all behind that are younger too
+    pub older-before : (o : ℕ) → s ≡ At o → Younger n o × (o < i)
+    older-before o t =
+        let found = last-says _ i o (sym q ∙ t) in
+        let older = ltb-true (ageOf f row i) (ageOf f row o) (found .has) in
+        let passed : (j : ℕ) → o < j → j < i → ageOf f row j ≤ ageOf f row i = λ j g k. ltb-false _ _ (found .none-behind j g k) in
+        let behind : (j : ℕ) → o < j → j < n → ageOf f row j < ageOf f row o = λ j g l. omega (arith, no-older n i j y (passed j g) l) in
+        (record { inside = omega (arith, found .inside, y .inside); behind = behind }, found .inside)
 
-  pub keeps-place : (n i left : ℕ) → OldestYet n i left → 0 < left → ageOf f row (left - 1) ≤ ageOf f row i → OldestYet n i (left - 1)
-  keeps-place n i left y h younger = record {
-    inside = y .inside;
-    passed = omega (arith, y .passed);
-    behind = y .behind;
-    before = λ j g l. go j g l (ℕ-discrete j (left - 1));
-  }
-    where
-      go : (j : ℕ) → left - 1 ≤ j → j < i → Dec (j ≡ left - 1) → ageOf f row j ≤ ageOf f row i
-      go j g l (yes d) = rw d younger
-      go j g l (no d) = y .before j (omega arith) l
-
-  -- none that is left is older: it is the last of the oldest
-  pub no-older-left : (n i left : ℕ) → OldestYet n i left → ((j : ℕ) → j < left → ageOf f row j ≤ ageOf f row i) → At i ≡ lastOldest f n row
-  no-older-left n i left y rest =
-      let top : oldestAge f n row ≡ ageOf f row i = omega (arith, none-older n i (y .inside), oldest-most n (ageOf f row i) most) in
-      sym (rw top (last-is _ n i (record { inside = y .inside; has = eq-eqb (ageOf f row i) (ageOf f row i) refl; none-behind = younger })))
-    where
-      most : (j : ℕ) → j < n → ageOf f row j ≤ ageOf f row i
-      most j l = go (ltb j left) refl
-        where
-          go : (b : Bool) → ltb j left ≡ b → ageOf f row j ≤ ageOf f row i
-          go true t = rest j (ltb-true j left t)
-          go false t = no-older n i left j y (ltb-false j left t) l
-
-      younger : (j : ℕ) → i < j → j < n → hasAge f (ageOf f row i) row j ≡ false
-      younger j g l = ne-eqb (ageOf f row j) (ageOf f row i) (λ e. omega (arith, y .behind j g l))
+    -- none: it is the last of the oldest
+    pub none-before : s ≡ Nowhere → lastOldest f n row ≡ At i
+    none-before t =
+        let passed : (j : ℕ) → j < i → ageOf f row j ≤ ageOf f row i = λ j g. ltb-false _ _ (last-none _ i (sym q ∙ t) j g) in
+        let most : (j : ℕ) → j < n → ageOf f row j ≤ ageOf f row i = λ j l. no-older n i j y (passed j) l in
+        let top : oldestAge f n row ≡ ageOf f row i = omega (arith, none-older n i (y .inside), oldest-most n (ageOf f row i) most) in
+        rw top (last-is _ n i (record { inside = y .inside; has = eq-eqb (ageOf f row i) (ageOf f row i) refl; none-behind = younger }))
+      where
+        younger : (j : ℕ) → i < j → j < n → hasAge f (ageOf f row i) row j ≡ false
+        younger j g l = ne-eqb (ageOf f row j) (ageOf f row i) (λ e. omega (arith, y .behind j g l))

@@ -42,6 +42,24 @@ pub record LastAt (p : ℕ → Bool) (n i : ℕ) : Type 0 where
   pub has : p i ≡ true
   pub none-behind : (j : ℕ) → i < j → j < n → p j ≡ false
 
+still-last : (p : ℕ → Bool) (n i : ℕ) → p n ≡ false → LastAt p n i → LastAt p (suc n) i
+still-last p n i t r = record { inside = omega (arith, r .inside); has = r .has; none-behind = λ j g l. behind j g l (ℕ-discrete j n) }
+  where
+    behind : (j : ℕ) → i < j → j < suc n → Dec (j ≡ n) → p j ≡ false
+    behind j g l (yes d) = rw d t
+    behind j g l (no d) = r .none-behind j g (omega arith)
+
+pub last-says : (p : ℕ → Bool) (n i : ℕ) → lastOf p n ≡ At i → LastAt p n i
+unfolding lastOf
+last-says p zero i e = let z : _≡_ {A = ℕ} 0 1 = cc in absurd (omega arith)
+last-says p (suc n) i e = go (last-says p n i) (p n) refl e
+  where
+    go : (lastOf p n ≡ At i → LastAt p n i) → (b : Bool) → p n ≡ b → pick b (At n) (lastOf p n) ≡ At i → LastAt p (suc n) i
+    go before true t q =
+        let d : n ≡ i = cc in
+        record { inside = omega arith; has = rw (← d) t; none-behind = λ j g l. absurd (omega arith) }
+    go before false t q = still-last p n i t (before q)
+
 pub last-is : (p : ℕ → Bool) (n i : ℕ) → LastAt p n i → lastOf p n ≡ At i
 unfolding lastOf
 last-is p zero i l = absurd (omega (arith, l .inside))

@@ -2,7 +2,7 @@
 use Prim.Native.Nat.{ℕ, zero, suc, max}
 use mathlib.Core.Bool.{Bool}
 use mathlib.Core.List.{List}
-use lib.Dec.{eqb}
+use lib.Dec.{eqb, ltb}
 use Rattle.paper.specs.Record.{Family, satellite, agesOf, greatest}
 use Rattle.paper.specs.Room.{recordOf}
 use Rattle.choice.specs.Last.{lastOf}
@@ -20,6 +20,10 @@ ageOf f row i = greatest (agesOf f (recordOf f i row))
 -- slot i has a record that is so old
 abbrev pub hasAge : Family → ℕ → List ℕ → ℕ → Bool
 hasAge f age row i = eqb (ageOf f row i) age
+
+-- slot i has an older record than this slot
+abbrev pub isOlder : Family → ℕ → List ℕ → ℕ → Bool
+isOlder f slot row i = ltb (ageOf f row slot) (ageOf f row i)
 
 -- how old the oldest of the first n records is
 unfoldable pub oldestAge : Family → ℕ → List ℕ → ℕ

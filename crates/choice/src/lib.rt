@@ -1,5 +1,6 @@
 // Which record of a row a word goes to (STORE 10.5): this satellite's, else one without a satellite, else the oldest; of equals the last.
-// Each is a search from the end that breaks with its slot, or refuses. Only the promises of `choose_ced` and `choose_timing` are for callers.
+// Searches go from the end, break with their slot and refuse on the last. Only the promises of `choose_ced` and `choose_timing` are for
+// callers.
 ghost use mathlib.Core.Path.{_≡_};
 ghost use Prim.Native.Nat.{_+_, _≤_, _<_};
 ghost use lib.ListN.{length};
@@ -7,9 +8,8 @@ ghost use Rattle.paper.specs.Record.{familyIf, CED, Timing as TIMING};
 ghost use Rattle.paper.specs.Room.{mostSlots, slotSize, rowSize};
 ghost use Rattle.paper.specs.Feed.{chosen};
 ghost use Rattle.choice.specs.Last.{isOf, lastOf};
-ghost use Rattle.choice.specs.Cases.{ageOf, lastOldest};
+ghost use Rattle.choice.specs.Cases.{ageOf, isOlder, lastOldest};
 use records::Ced;
-use records::OLDEST;
 use records::SATELLITE_AT;
 use records::Timing;
 
@@ -53,32 +53,39 @@ fn age_of(row: &[u8], timing: bool, i: usize) -> u8
     Ced::greatest(Ced::ages(&row[at..at + Ced::SIZE]))
 }
 
-// The last of n slots whose record is oldest: an older one before it takes the place, up to one than which none can be older.
-fn last_oldest(row: &[u8], timing: bool, n: usize) -> Slot
-    requires { ⌜ (n ≤ mostSlots) × (rowSize n ≤ length (now row)) ⌝ }
-    ensures { λ r. ⌜ r ≡ lastOldest (familyIf timing) n (now (row .entry)) ⌝ }
+// The last slot before this one whose record is older.
+fn last_older(row: &[u8], timing: bool, slot: usize) -> Slot
+    requires { ⌜ (slot < mostSlots) × (rowSize (slot + 1) ≤ length (now row)) ⌝ }
+    ensures { λ r. ⌜ r ≡ lastOf (isOlder (familyIf timing) slot (now (row .entry))) slot ⌝ }
 {
-    if n == 0 {
-        return Slot::Nowhere;
-    }
-    let mut slot = n - 1;
-    let mut age = age_of(row, timing, slot);
+    let age = age_of(row, timing, slot);
     let mut left = slot;
     let last = loop {
         if left == 0 {
-            break slot;
+            return Slot::Nowhere;
         }
-        if age == OLDEST {
-            break slot;
+        let i = left - 1;
+        if age < age_of(row, timing, i) {
+            break i;
         }
         left -= 1;
-        let before = age_of(row, timing, left);
-        if age < before {
-            age = before;
-            slot = left;
-        }
     };
     Slot::At(last)
+}
+
+// The last of n slots whose record is oldest: from the last slot on, as long as one before it is older, that one.
+fn last_oldest(row: &[u8], timing: bool, n: usize) -> usize
+    requires { ⌜ (1 ≤ n) × (n ≤ mostSlots) × (rowSize n ≤ length (now row)) ⌝ }
+    ensures { λ r. ⌜ lastOldest (familyIf timing) n (now (row .entry)) ≡ Slot.At r ⌝ }
+{
+    let mut slot = n - 1;
+    let oldest = loop {
+        let Slot::At(older) = last_older(row, timing, slot) else {
+            break slot;
+        };
+        slot = older;
+    };
+    oldest
 }
 
 // STORE 10.5, in three cases.
@@ -93,11 +100,7 @@ fn choose(row: &[u8], timing: bool, n: usize, sat: u8) -> usize
     if let Slot::At(unclaimed) = last_of(row, at, n, UNCLAIMED) {
         return unclaimed;
     }
-    if let Slot::At(oldest) = last_oldest(row, timing, n) {
-        return oldest;
-    }
-    // never: one of the n records is the oldest
-    0
+    last_oldest(row, timing, n)
 }
 
 // The slot of the CED record that a word of the satellite goes to.

@@ -1,10 +1,8 @@
 -- The code goes by the three cases, each by its search, and the slot of the three cases is the chosen one (`three-cases`).
 use native.Mathlib.Omega.{arith}
-use mathlib.Core.Path.{sym, _∙_}
 use borrow.Author.Needs.{needs}
 use Rattle.paper.specs.Record.{familyIf}
 use Rattle.paper.proofs.Views.{slot-fits}
-use Rattle.choice.proofs.Oldest.{oldest-there}
 use Rattle.choice.proofs.Steps.{found-own, found-unclaimed, found-oldest, by-satellite}
 use Rattle.choice.proofs.choose.Statement.{statement}
 use Rattle.choice.proofs.choose.Tie as tie
@@ -60,13 +58,9 @@ enum-told-2 c = search needs
 last-oldest-requires : tie.Need-last-oldest-requires
 last-oldest-requires c κs = search needs
 
-enum-known-oldest : tie.Need-enum-known-oldest
-enum-known-oldest c = search needs
-
 returns-3 : tie.Need-returns-3
 returns-3 c =
-    let third = c .before .before .before in
-    let told2 = third .before in
+    let told2 = c .before in
     let second = told2 .before .before in
     let told = second .before in
     let first = told .before .before in
@@ -77,16 +71,7 @@ returns-3 c =
     found-oldest f _ _ _ (λ k. known .shared-slice-known .given k .fits) (s .pre .0) _
     (by-satellite f _ _ _ _ _ _ at (first .last-of .ensures) (told .enum-told .given .1))
     (by-satellite f _ _ _ _ _ _ at (second .last-of2 .ensures) (told2 .enum-told2 .given .1))
-    (sym (third .last-oldest .ensures) ∙ c .before .oldest .given .1)
-
-enum-told-3 : tie.Need-enum-told-3
-enum-told-3 c = search needs
-
-returns-4 : tie.Need-returns-4
-returns-4 c =
-    let third = c .before .before in
-    let s = third .before .before .before .before .before .before .before .before .before in
-    absurd (oldest-there (familyIf (s .args .timing)) _ _ (s .pre .0) (sym (third .last-oldest .ensures) ∙ c .enum-told3 .given .1))
+    (c .last-oldest .ensures)
 
 pub choose-spec : {M : Type 1} → statement M
 choose-spec =
@@ -103,7 +88,4 @@ choose-spec =
     returns-2
     enum-told-2
     last-oldest-requires
-    enum-known-oldest
-    returns-3
-    enum-told-3
-    returns-4)
+    returns-3)
