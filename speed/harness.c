@@ -118,6 +118,10 @@ static void fill_row(uint8_t most) {
 }
 static void fill_rows(void) { for (int r = 0; r <= d; r++) { now += 30; fill_row(n); } }
 static void again(void) { for (int i = 0; i < CALLS; i++) word(some(i), 1, true); }
+/* A row in which each record is a subframe older than the one behind it. */
+static void rising(void) { for (uint8_t k = 0; k < n; k++) { now += 30; fill_row((uint8_t)(n - k)); } }
+/* Satellites that have no slot, in a row that is full. */
+static void replaced(void) { for (int i = 0; i < CALLS; i++) word((uint8_t)(n + 1 + i), 1, true); }
 static void new_subframe(void) { for (int i = 0; i < CALLS; i++) { now += 30; word(some(i), 1, true); } }
 static void ced_tag(void) { for (int i = 0; i < CALLS; i++) tag(some(i), 0, now + 30, false); }
 static void timing_tag(void) { for (int i = 0; i < CALLS; i++) tag(some(i), 4, now + 30, false); }
@@ -232,6 +236,12 @@ int main(int argc, char **argv) {
     part("read timing numbers", read_timing, CALLS);
     part("word, new subframe", new_subframe, CALLS);
     part("the room's test", test, CALLS);
+    if (n + CALLS <= 36) {
+        part("word, satellite replaced", replaced, CALLS);
+        fresh();
+        part(NULL, rising, 0);
+        part("word, satellite replaced, at worst", replaced, CALLS);
+    }
     for (int k = 0; k < 2; k++) {
         fresh();
         part(NULL, yard_before, 0);

@@ -1,9 +1,7 @@
-"""Prints the table of instructions a call from callgrind's dumps.
+"""Prints the table of instructions a call from what was counted.
 
-usage: table.py FOLDER "D N".. ; FOLDER/D-N has the dumps of that size, each named SIDE/PART/CALLS
+usage: table.py FOLDER "D N".. ; FOLDER/D-N/counts has a line for each part at that size: SIDE/PART/CALLS, a tab, its instructions
 """
-import glob
-import re
 import sys
 
 folder, sizes = sys.argv[1], sys.argv[2:]
@@ -11,18 +9,16 @@ folder, sizes = sys.argv[1], sys.argv[2:]
 
 def counts(size):
     found = {}
-    for name in glob.glob("%s/%s/callgrind.out.*" % (folder, size.replace(" ", "-"))):
-        text = open(name).read()
-        label = re.search(r"^desc: Trigger: Client Request: (.*)$", text, re.M)
-        total = re.search(r"^(?:totals|summary): (\d+)", text, re.M)
-        if label and total:
-            side, part, calls = label.group(1).strip().split("/")
-            found[part, side] = (int(total.group(1)), int(calls))
+    for line in open("%s/%s/counts" % (folder, size.replace(" ", "-"))):
+        label, instructions = line.rstrip("\n").split("\t")
+        side, part, calls = label.split("/")
+        found[part, side] = (int(instructions), int(calls))
     return found
 
 
 CALLS = [
-    "word, first fill", "same word again", "word, new subframe", "CED tag", "timing tag", "ask CED", "ask timing", "read orbit",
+    "word, first fill", "same word again", "word, satellite replaced", "word, satellite replaced, at worst", "word, new subframe", "CED tag",
+    "timing tag", "ask CED", "ask timing", "read orbit",
     "read timing numbers", "the room's test", "the room's test, fresh",
 ]
 # the port's own calls, and the asking whose data each reads
@@ -48,6 +44,8 @@ for size in sizes:
 
     print("\nD %d, N %d (%d records)\n\n| Call | port | Rust | ratio |\n|---|---:|---:|---:|" % (d, n, 2 * d * n))
     for part in CALLS:
+        if (part, "port") not in got:
+            continue  # all 36 satellites have a slot, so that none is replaced
         if part.startswith("the room's test"):
             print("| %s | %.0f | none | %.1f a record |" % (part, each(part, "port"), each(part, "port") / (2 * d * n)))
         elif part in READINGS:

@@ -27,7 +27,7 @@ fn only_zero_is_success() {
         }
     }
     assert_eq!(Refusal::check(15), Err(Refusal::Unlisted(15)));
-    assert_eq!(Refusal::Unlisted(15).to_string(), "answer 15 is not one of version 0.4.0");
+    assert_eq!(Refusal::Unlisted(15).to_string(), "answer 15 is not one of version 0.4.1");
 }
 
 type OrbitNumbers = (u8, u16, u16, u32, (Word1, Word2, Word3, Word4, Word5), [u64; 23]);
