@@ -2,13 +2,9 @@
 -- Assumes nothing.
 use native.Mathlib.Omega.{arith}
 use mathlib.Core.Path.{_≡_, refl, sym, ap, _∙_}
-use Prim.Native.Nat.{ℕ, _<_, _≤_}
+use Prim.Native.Nat.{ℕ}
 use Rattle.paper.specs.Number.{number}
-use Rattle.refusals.specs.Reply.{numberOf}
-use Rattle.refusals.specs.declared.Refusal.{Refusal}
-use Rattle.refusals.specs.declared.Refusal.the-variants.{Sizes, TooShort, NotAStore, NoSatellite, NoTime, NotAStart, OutOfTime, NotAllowed}
-use Rattle.refusals.specs.declared.Refusal.the-variants.{Unknown, NoCandidate, OtherData, NotEnough, Dummy, VerdictNo, StatusAddsNothing}
-use Rattle.refusals.proofs.Answers.{same-refusal, above-zero}
+use Rattle.refusals.proofs.Answers.{same-refusal, above-zero, at-most}
 use Rattle.gst.specs.declared.Gst.{Gst}
 use Rattle.orbit.specs.declared.Orbit.{Orbit}
 use Rattle.orbit.specs.declared.TimingNumbers.{TimingNumbers}
@@ -19,24 +15,6 @@ use Rattle.orbit.specs.declared.GotOrbit.the-variants.{Found, IssuesDiff
 use Rattle.orbit.specs.declared.GotTiming.{GotTiming}
 use Rattle.orbit.specs.declared.GotTiming.the-variants.{Found as timing-found, Refused as timing-refused}
 use Rattle.orbit.specs.Got.{placedAnswer, placePlaced, gotAnswer, gotOrbit, gotTimingAnswer, gotTiming}
-
--- no refusal of asking has the numbers of the two tests
-other : (why : Refusal) → numberOf why < 21
-other Sizes = omega arith
-other TooShort = omega arith
-other NotAStore = omega arith
-other NoSatellite = omega arith
-other NoTime = omega arith
-other NotAStart = omega arith
-other OutOfTime = omega arith
-other NotAllowed = omega arith
-other Unknown = omega arith
-other NoCandidate = omega arith
-other OtherData = omega arith
-other NotEnough = omega arith
-other Dummy = omega arith
-other VerdictNo = omega arith
-other StatusAddsNothing = omega arith
 
 -- a time put together again
 time : ℕ → ℕ → Gst
@@ -60,13 +38,13 @@ placed-one (At x n g) placed-22 e p = absurd (omega (arith, ap number e))
 placed-one (At x n g) (placed-refused w) e p = absurd (omega (arith, ap number e, above-zero w))
 placed-one placed-21 (At y m h) e p = absurd (omega (arith, ap number e))
 placed-one placed-21 placed-22 e p = absurd (omega (arith, ap number e))
-placed-one placed-21 (placed-refused w) e p = absurd (omega (arith, ap number e, other w))
+placed-one placed-21 (placed-refused w) e p = absurd (omega (arith, ap number e, at-most w))
 placed-one placed-22 (At y m h) e p = absurd (omega (arith, ap number e))
 placed-one placed-22 placed-21 e p = absurd (omega (arith, ap number e))
-placed-one placed-22 (placed-refused w) e p = absurd (omega (arith, ap number e, other w))
+placed-one placed-22 (placed-refused w) e p = absurd (omega (arith, ap number e, at-most w))
 placed-one (placed-refused v) (At y m h) e p = absurd (omega (arith, ap number e, above-zero v))
-placed-one (placed-refused v) placed-21 e p = absurd (omega (arith, ap number e, other v))
-placed-one (placed-refused v) placed-22 e p = absurd (omega (arith, ap number e, other v))
+placed-one (placed-refused v) placed-21 e p = absurd (omega (arith, ap number e, at-most v))
+placed-one (placed-refused v) placed-22 e p = absurd (omega (arith, ap number e, at-most v))
 
 pub orbit-one : (r r' : GotOrbit) → gotAnswer r ≡ gotAnswer r' → gotOrbit r ≡ gotOrbit r' → r ≡ r'
 orbit-one (Found n g o) (Found m h q) e p =
@@ -82,13 +60,13 @@ orbit-one (Found n g o) OtherSatellite e p = absurd (omega (arith, ap number e))
 orbit-one (Found n g o) (Refused w) e p = absurd (omega (arith, ap number e, above-zero w))
 orbit-one IssuesDiffer (Found m h q) e p = absurd (omega (arith, ap number e))
 orbit-one IssuesDiffer OtherSatellite e p = absurd (omega (arith, ap number e))
-orbit-one IssuesDiffer (Refused w) e p = absurd (omega (arith, ap number e, other w))
+orbit-one IssuesDiffer (Refused w) e p = absurd (omega (arith, ap number e, at-most w))
 orbit-one OtherSatellite (Found m h q) e p = absurd (omega (arith, ap number e))
 orbit-one OtherSatellite IssuesDiffer e p = absurd (omega (arith, ap number e))
-orbit-one OtherSatellite (Refused w) e p = absurd (omega (arith, ap number e, other w))
+orbit-one OtherSatellite (Refused w) e p = absurd (omega (arith, ap number e, at-most w))
 orbit-one (Refused v) (Found m h q) e p = absurd (omega (arith, ap number e, above-zero v))
-orbit-one (Refused v) IssuesDiffer e p = absurd (omega (arith, ap number e, other v))
-orbit-one (Refused v) OtherSatellite e p = absurd (omega (arith, ap number e, other v))
+orbit-one (Refused v) IssuesDiffer e p = absurd (omega (arith, ap number e, at-most v))
+orbit-one (Refused v) OtherSatellite e p = absurd (omega (arith, ap number e, at-most v))
 
 pub timing-one : (r r' : GotTiming) → gotTimingAnswer r ≡ gotTimingAnswer r' → gotTiming r ≡ gotTiming r' → r ≡ r'
 timing-one (timing-found n g o) (timing-found m h q) e p =

@@ -17,3 +17,4 @@ pub mod Opens
 pub mod Shorter
 pub mod Fields
 pub mod Numbers
+pub mod Messages

@@ -17,4 +17,5 @@ pub mod Ask
 pub mod Reset
 pub mod Answer
 pub mod Orbit
+pub mod Message
 pub mod Call

@@ -73,6 +73,24 @@ above-zero Dummy = omega arith
 above-zero VerdictNo = omega arith
 above-zero StatusAddsNothing = omega arith
 
+-- and none has a number above 18
+pub at-most : (why : Refusal) → numberOf why ≤ 18
+at-most Sizes = omega arith
+at-most TooShort = omega arith
+at-most NotAStore = omega arith
+at-most NoSatellite = omega arith
+at-most NoTime = omega arith
+at-most NotAStart = omega arith
+at-most OutOfTime = omega arith
+at-most NotAllowed = omega arith
+at-most Unknown = omega arith
+at-most NoCandidate = omega arith
+at-most OtherData = omega arith
+at-most NotEnough = omega arith
+at-most Dummy = omega arith
+at-most VerdictNo = omega arith
+at-most StatusAddsNothing = omega arith
+
 -- two replies with one answer are one
 pub same-reply : (a b : Reply) → replyAnswer a ≡ replyAnswer b → a ≡ b
 same-reply Done Done e = refl

@@ -1,0 +1,13 @@
+-- `data_bytes` tells timing from the others.
+use borrow.Author.Tests.{eq-eqb, ne-eqb}
+use Rattle.message.proofs.data_bytes.Statement.{statement}
+use Rattle.message.proofs.data_bytes.Tie as tie
+
+returns : tie.Need-returns
+returns c = rw (eq-eqb _ _ (c .if1 .taken))
+
+returns-2 : tie.Need-returns-2
+returns-2 c = rw (ne-eqb _ _ (c .if1 .left))
+
+pub data-bytes-spec : {M : Type 1} → statement M
+data-bytes-spec = tie.close (tie.spec returns returns-2)

@@ -1,0 +1,183 @@
+-- `read` tests in the paper's order, and writes only behind the last test.
+use mathlib.Core.Path.{_≡_, refl, sym, ap, _∙_}
+use Prim.Native.Nat.{ℕ, _-_, _≤_}
+use native.Mathlib.Omega.{arith}
+use lib.ListN.{length}
+use Rattle.refusals.proofs.Answers.{does}
+use Rattle.message.specs.Outcome.{headOf, fieldsNumber}
+use Rattle.message.proofs.Sizes.{bytes-sum, data-least}
+use Rattle.message.proofs.Reading.{lengths-refuse, fields-refuse, padding-refuse, lengths-passed, head-asks, head-below, head-read, padding-bit, body-asks, was-read}
+use borrow.Author.Needs.{needs}
+use Rattle.message.proofs.read.Statement.{statement}
+use Rattle.message.proofs.read.Tie as tie
+
+lengths-entry-requires : tie.Need-lengths-entry-requires
+lengths-entry-requires c κs = search needs
+
+enum-known-lengths : tie.Need-enum-known-lengths
+enum-known-lengths c = search needs
+
+same-length : tie.Need-same-length
+same-length c = search needs
+
+returns : tie.Need-returns
+returns c =
+    let entry = c .before .before .before in
+    let a = entry .before .before .before .before .args in
+    lengths-refuse (a .form) (a .message .now) (a .out .now) _ _ (c .before .lengths .given .1) (entry .lengths-entry .ensures)
+
+enum-told : tie.Need-enum-told
+enum-told c = search needs
+
+head-bytes-requires : tie.Need-head-bytes-requires
+head-bytes-requires c κs = search needs
+
+head-requires : tie.Need-head-requires
+head-requires c κs =
+    let told = c .before in
+    let entry = told .before .before in
+    let a = entry .before .before .before .before .args in
+    let z = does _ _ _ (told .enum-told .given .1) (entry .lengths-entry .ensures) in
+    head-asks (a .form) (a .message .now) (a .out .now) z _ (c .head-bytes .ensures)
+
+heading-of-requires : tie.Need-heading-of-requires
+heading-of-requires c κs =
+    let k = c .before in
+    let a = k .before .before .before .before .before .before .before .args in
+    head-below (a .form) (a .message .now) (a .out .now) _ _ (k .head-bytes .ensures) (c .head .ensures)
+
+fields-entry-requires : tie.Need-fields-entry-requires
+fields-entry-requires c κs = search needs
+
+enum-known-fields : tie.Need-enum-known-fields
+enum-known-fields c = search needs
+
+same-length-2 : tie.Need-same-length-2
+same-length-2 c = search needs
+
+returns-2 : tie.Need-returns-2
+returns-2 c =
+    let fields = c .before .before .before in
+    let head = fields .before .before in
+    let k = head .before in
+    let told = k .before in
+    let entry = told .before .before in
+    let a = entry .before .before .before .before .args in
+    let z = does _ _ _ (told .enum-told .given .1) (entry .lengths-entry .ensures) in
+    let h = fields .before .heading-of in
+    let e = head-read (a .form) (a .message .now) (a .out .now) _ _ (headOf (h .result)) (k .head-bytes .ensures) (head .head .ensures) (h .ensures) in
+    fields-refuse (a .form) (a .message .now) (a .out .now) z (headOf (h .result)) e _ _ (c .before .fields .given .1) (fields .fields-entry .ensures)
+
+enum-told-2 : tie.Need-enum-told-2
+enum-told-2 c = search needs
+
+sub-if1 : tie.Need-sub-if1
+sub-if1 c =
+    let told = c .before .before .before .before .before .before in
+    let entry = told .before .before in
+    let a = entry .before .before .before .before .args in
+    let z = does _ _ _ (told .enum-told .given .1) (entry .lengths-entry .ensures) in
+    omega (arith, lengths-passed (a .form) (a .message .now) (a .out .now) z .0, bytes-sum (a .form), data-least (a .form))
+
+shared-slice-read-if1 : tie.Need-shared-slice-read-if1
+shared-slice-read-if1 c =
+    let told = c .before .before .before .before .before .before .before in
+    let entry = told .before .before in
+    let a = entry .before .before .before .before .args in
+    let z = does _ _ _ (told .enum-told .given .1) (entry .lengths-entry .ensures) in
+    omega (arith, lengths-passed (a .form) (a .message .now) (a .out .now) z .0, bytes-sum (a .form), data-least (a .form))
+
+same-length-3 : tie.Need-same-length-3
+same-length-3 c = search needs
+
+returns-3 : tie.Need-returns-3
+returns-3 c =
+    let told2 = c .before .before in
+    let fields = told2 .before .before in
+    let head = fields .before .before in
+    let k = head .before in
+    let told = k .before in
+    let entry = told .before .before in
+    let a = entry .before .before .before .before .args in
+    let z = does _ _ _ (told .enum-told .given .1) (entry .lengths-entry .ensures) in
+    let h = fields .before .heading-of in
+    let e = head-read (a .form) (a .message .now) (a .out .now) _ _ (headOf (h .result)) (k .head-bytes .ensures) (head .head .ensures) (h .ensures) in
+    let f = ap (fieldsNumber (a .form)) (sym e) ∙ does _ _ _ (told2 .enum-told2 .given .1) (fields .fields-entry .ensures) in
+    let bit = padding-bit (a .form) (a .message .now) (a .out .now) z in
+    padding-refuse (a .form) (a .message .now) (a .out .now) z f (λ p. c .if1 .taken (bit ∙ p))
+
+data-bytes-requires : tie.Need-data-bytes-requires
+data-bytes-requires c κs = search needs
+
+sub-body : tie.Need-sub-body
+sub-body c = search needs
+
+part-body-start : tie.Need-part-body-start
+part-body-start c = search needs
+
+part-body-end : tie.Need-part-body-end
+part-body-end c =
+    let told = c .before .before .before .before .before .before .before .before .before in
+    let entry = told .before .before in
+    let a = entry .before .before .before .before .args in
+    let z = does _ _ _ (told .enum-told .given .1) (entry .lengths-entry .ensures) in
+    omega (arith, lengths-passed (a .form) (a .message .now) (a .out .now) z .1, c .data-bytes .ensures)
+
+body-requires : tie.Need-body-requires
+body-requires c κs =
+    let k = c .before .before .before .before .before .before .before .before .before in
+    let told = k .before in
+    let entry = told .before .before in
+    let a = entry .before .before .before .before .args in
+    let z = does _ _ _ (told .enum-told .given .1) (entry .lengths-entry .ensures) in
+    body-asks (a .form) (a .message .now) (a .out .now) z _ _ (k .head-bytes .ensures) (c .before .data-bytes .ensures)
+
+same-length-4 : tie.Need-same-length-4
+same-length-4 c = search needs
+
+returns-4 : tie.Need-returns-4
+returns-4 c =
+    let size = c .before .before .before .before in
+    let told2 = size .before .before .before in
+    let fields = told2 .before .before in
+    let head = fields .before .before in
+    let k = head .before in
+    let told = k .before in
+    let entry = told .before .before in
+    let a = entry .before .before .before .before .args in
+    let z = does _ _ _ (told .enum-told .given .1) (entry .lengths-entry .ensures) in
+    let h = fields .before .heading-of in
+    let e = head-read (a .form) (a .message .now) (a .out .now) _ _ (headOf (h .result)) (k .head-bytes .ensures) (head .head .ensures) (h .ensures) in
+    let f = ap (fieldsNumber (a .form)) (sym e) ∙ does _ _ _ (told2 .enum-told2 .given .1) (fields .fields-entry .ensures) in
+    let bit = padding-bit (a .form) (a .message .now) (a .out .now) z in
+    was-read (a .form) (a .message .now) (a .out .now) z f (sym bit ∙ size .before .if1 .left) (headOf (h .result)) e _ _
+    (c .before .before .body .last .0) _ (k .head-bytes .ensures) (size .data-bytes .ensures) (c .before .before .body .ensures) refl
+
+pub read-spec : {M : Type 1} → statement M
+read-spec =
+    tie.close
+    (tie.spec
+    lengths-entry-requires
+    enum-known-lengths
+    same-length
+    returns
+    enum-told
+    head-bytes-requires
+    head-requires
+    heading-of-requires
+    fields-entry-requires
+    enum-known-fields
+    same-length-2
+    returns-2
+    enum-told-2
+    sub-if1
+    shared-slice-read-if1
+    same-length-3
+    returns-3
+    data-bytes-requires
+    sub-body
+    part-body-start
+    part-body-end
+    body-requires
+    same-length-4
+    returns-4)

@@ -1,0 +1,2 @@
+-- What the inner function of the writer leaves.
+pub mod Big
