@@ -9,6 +9,7 @@
 #include "dawnstook.h"
 
 enum { D = 2, N = 3, SAT = 11, WEEK = 1177, START = 175740, MACK = START + DAWNSTOOK_SUBFRAME_SECONDS, ISSUE = 42 };
+enum { SENDER = 2, COUNTER = 3 };
 #define SIZE DAWNSTOOK_ROOM_SIZE(D, N)
 
 static void need(bool truth, const char *what) {
@@ -96,6 +97,47 @@ static void use(uint8_t *room, size_t len, uint8_t *word, uint8_t *given) {
     need(numbers.word10.a0g == -32126 && numbers.scaled.a0g == -32126 / 34359738368.0, "a number of timing");
 }
 
+/* The forms of a message, the bytes of each and of its data. */
+static const struct { uint8_t form; size_t bytes, data; } forms[] = {
+    { DAWNSTOOK_FORM_CED, DAWNSTOOK_CED_MESSAGE_BYTES, DAWNSTOOK_CED_BYTES },
+    { DAWNSTOOK_FORM_TAG0, DAWNSTOOK_TAG0_MESSAGE_BYTES, DAWNSTOOK_CED_BYTES },
+    { DAWNSTOOK_FORM_TIMING, DAWNSTOOK_TIMING_MESSAGE_BYTES, DAWNSTOOK_TIMING_BYTES },
+};
+enum { FORMS = sizeof forms / sizeof *forms };
+
+static dawnstook_message_built build(uint8_t *out, size_t len, const uint8_t *given, size_t given_len, uint8_t form) {
+    return dawnstook_build_message(out, len, given, given_len, SENDER, SAT, WEEK, MACK, form, DAWNSTOOK_OPERATIONAL, COUNTER);
+}
+
+/* Whether all but the number is 0. */
+static bool bare_message(dawnstook_message_read m) {
+    return m.prnd == 0 && m.prna == 0 && m.status == 0 && m.week == 0 && m.time == 0 && m.counter == 0;
+}
+
+/* A message built and read back, with data, message and data read back at places that the caller chooses, and what the two buffers have
+ * behind it. */
+static void speak(size_t f, uint8_t *given, uint8_t *message, uint8_t *back, size_t behind) {
+    static const uint8_t head[] = { SAT, SENDER, 0x49, 0x92, 0xae, 0x9a, COUNTER };
+    const uint8_t form = forms[f].form;
+    const size_t skip = form == DAWNSTOOK_FORM_TAG0, bytes = forms[f].bytes, data = forms[f].data;
+    for (size_t i = 0; i < data; i++) given[i] = (uint8_t)(31 * i + 7);
+    given[data - 1] |= 7;
+    memset(message, 0xa5, bytes + behind);
+    memset(back, 0xa5, data + behind);
+    dawnstook_message_built built = build(message, bytes + behind, given, data, form);
+    need(built.number == DAWNSTOOK_DONE && built.bytes == bytes, "a message");
+    need(memcmp(message, head + skip, sizeof head - skip) == 0, "what stands in front of the data");
+    need(message[sizeof head - skip] == (0x80 | given[0] >> 2), "the status and the first bits of the data");
+    need(message[bytes - 1] == (uint8_t)(given[data - 2] << 6 | (given[data - 1] & 0xf8) >> 2), "the last bits of the data and a zero");
+    dawnstook_message_read read = dawnstook_read_message(back, data + behind, message, bytes, form);
+    need(read.number == DAWNSTOOK_DONE && read.prnd == (skip ? 0 : SAT) && read.prna == SENDER && read.status == DAWNSTOOK_OPERATIONAL,
+         "the satellites and the status read back");
+    need(read.week == WEEK && read.time == MACK && read.counter == COUNTER, "the time and the counter read back");
+    given[data - 1] &= 0xf8;
+    need(memcmp(back, given, data) == 0, "the data read back, with zeros behind it");
+    for (size_t i = 0; i < behind; i++) need(message[bytes + i] == 0xa5 && back[data + i] == 0xa5, "bytes behind a message stay");
+}
+
 /* Records of an input (STORE 17.2): each answers how many bytes it wrote. */
 static size_t put_time(uint8_t *at, uint32_t time) {
     const uint8_t bytes[] = { WEEK >> 8, WEEK & 255, (uint8_t)(time >> 24), (uint8_t)(time >> 16), (uint8_t)(time >> 8), (uint8_t)time };
@@ -155,6 +197,7 @@ static uint8_t *fenced(size_t bytes, bool at_end) {
 static void ranges(void) {
     static uint8_t first[SIZE], room[SIZE + 16], word[DAWNSTOOK_WORD_BYTES + 16], given[DAWNSTOOK_CED_BYTES + 16];
     static uint8_t reader[DAWNSTOOK_READER_BYTES + 16], place[40 + 16], out[DAWNSTOOK_LONGEST_LINE + 16];
+    static uint8_t message[DAWNSTOOK_CED_MESSAGE_BYTES + 32], back[DAWNSTOOK_CED_BYTES + 32];
     use(first, sizeof first, word, given);
     for (size_t i = 0; i < 16; i++) {
         use(room + i, SIZE, word + (i * 3) % 16, given + (i * 7) % 16);
@@ -162,8 +205,9 @@ static void ranges(void) {
         memset(room, 0, sizeof room);
         hear(reader + (i * 5) % 16, room + i, SIZE, place + (i * 11) % 16, 40 - i, out + (i * 13) % 16);
         need(memcmp(room + i, first, SIZE) == 0, "the same room through a reader at any place");
+        for (size_t f = 0; f < FORMS; f++) speak(f, given + (i * 3) % 16, message + i, back + (i * 7) % 16, i);
     }
-    puts("no alignment: the same room at 16 places");
+    puts("no alignment: the same room and the same messages at 16 places");
     for (int at_end = 0; at_end < 2; at_end++) {
         uint8_t *fence = fenced(SIZE, at_end);
         use(fence, SIZE, fenced(DAWNSTOOK_WORD_BYTES, at_end), fenced(DAWNSTOOK_CED_BYTES, at_end));
@@ -178,6 +222,25 @@ static void ranges(void) {
             memset(fenced_reader, 0, DAWNSTOOK_READER_BYTES);
             need(dawnstook_part(fenced_reader, fence, SIZE, reset, 1, part, len).took == 0, "a part of a line's room is too short");
         }
+        for (size_t f = 0; f < FORMS; f++) {
+            uint8_t *data = fenced(forms[f].data, at_end), *whole = fenced(forms[f].bytes, at_end);
+            speak(f, data, whole, fenced(forms[f].data, at_end), 0);
+            for (size_t len = 0; len < forms[f].bytes; len++) {
+                uint8_t *part = fenced(len, at_end);
+                memset(part, 0xa5, len);
+                dawnstook_message_built built = build(part, len, data, forms[f].data, forms[f].form);
+                need(built.number == DAWNSTOOK_NOT_ALLOWED && built.bytes == 0, "a part of a message's room is too short");
+                dawnstook_message_read read = dawnstook_read_message(data, forms[f].data, part, len, forms[f].form);
+                need(read.number == DAWNSTOOK_NOT_ALLOWED && bare_message(read), "a part of a message is none");
+                if (len < forms[f].data) {
+                    read = dawnstook_read_message(part, len, whole, forms[f].bytes, forms[f].form);
+                    need(read.number == DAWNSTOOK_NOT_ALLOWED && bare_message(read), "a part of the data's room is too short");
+                    built = build(whole, forms[f].bytes, part, len, forms[f].form);
+                    need(built.number == DAWNSTOOK_NOT_ALLOWED && built.bytes == 0, "a part of the data is none");
+                }
+                for (size_t i = 0; i < len; i++) need(part[i] == 0xa5, "a refusal leaves the buffer");
+            }
+        }
         need(dawnstook_reset_authbits(fence, SIZE) == DAWNSTOOK_DONE, "a reset");
         for (size_t len = 0; len < SIZE; len += len < 16 ? 1 : 97) {
             uint8_t *part = fenced(len, at_end);
@@ -186,11 +249,11 @@ static void ranges(void) {
             need(dawnstook_fresh(part, len, D, N) == DAWNSTOOK_TOO_SHORT, "a part is too short");
         }
     }
-    puts("no byte outside of a range is touched: room, word, data, reader, part and output between fences");
+    puts("no byte outside of a range is touched: room, word, data, reader, part, output, message and buffer between fences");
     memset(room, 7, sizeof room);
     need(dawnstook_fresh(room, sizeof room, D, N) == DAWNSTOOK_DONE, "a fresh store in a longer room");
     for (size_t i = SIZE; i < sizeof room; i++) need(room[i] == 7, "bytes past the size stay");
-    puts("bytes past the size stay");
+    puts("bytes past the size, and behind a message, stay");
 }
 
 /* Whether all but the number is 0. */
@@ -233,6 +296,20 @@ static void nothing(void) {
     need(!early.taken && closed.taken && again.taken && early.said == 0 && closed.said == 5 && again.said == 0, "an end is taken once");
     printf("NULL as an output at the end: %d, not taken; as a room there: %d; as both, later: %d\n", early.number, closed.number,
            again.number);
+    static uint8_t data[DAWNSTOOK_CED_BYTES], message[DAWNSTOOK_CED_MESSAGE_BYTES];
+    for (size_t f = 0; f < FORMS; f++) {
+        const uint8_t form = forms[f].form;
+        dawnstook_message_built nowhere = build(NULL, 0, data, forms[f].data, form);
+        dawnstook_message_built of_nothing = build(message, sizeof message, NULL, 0, form);
+        need(nowhere.bytes == 0 && of_nothing.bytes == 0, "a refusal carries no data");
+        need(build(message, sizeof message, data, forms[f].data, form).number == DAWNSTOOK_DONE, "a message");
+        dawnstook_message_read lost = dawnstook_read_message(NULL, 0, message, forms[f].bytes, form);
+        dawnstook_message_read none = dawnstook_read_message(data, sizeof data, NULL, 0, form);
+        need(bare_message(lost) && bare_message(none), "a refusal carries no data");
+        printf("NULL as a buffer, as data and as both, form %d: %d, %d, %d; as a buffer, as a message and as both: %d, %d, %d\n", form,
+               nowhere.number, of_nothing.number, build(NULL, 0, NULL, 0, form).number, lost.number, none.number,
+               dawnstook_read_message(NULL, 0, NULL, 0, form).number);
+    }
 }
 
 /* Any bytes are a reader: it takes a part with room for its lines, and ends once. */
@@ -283,6 +360,7 @@ static uint8_t unreadable(uint8_t *room, const uint8_t *word) {
 static void numbers(void) {
     static uint8_t room[SIZE], before[SIZE], word[DAWNSTOOK_WORD_BYTES], given[DAWNSTOOK_CED_BYTES];
     static uint8_t ended[DAWNSTOOK_READER_BYTES], cut[DAWNSTOOK_READER_BYTES], out[DAWNSTOOK_LONGEST_LINE], other[SIZE];
+    static uint8_t message[DAWNSTOOK_CED_MESSAGE_BYTES], kept[DAWNSTOOK_CED_BYTES];
     const uint8_t op = DAWNSTOOK_OPERATIONAL, unknown = 0, fresh = 6;
     need(dawnstook_fresh(room, sizeof room, D, N) == DAWNSTOOK_DONE, "a fresh store");
     words(room, sizeof room, word);
@@ -315,7 +393,14 @@ static void numbers(void) {
     memcpy(other, room, SIZE);
     make_word(word, 4, 4);
     word[2] = (SAT + 1) << 2;
-    printf(" %d\n", unreadable(other, word));
+    printf(" %d", unreadable(other, word));
+    need(build(message, sizeof message, given, sizeof given, DAWNSTOOK_FORM_CED).number == DAWNSTOOK_DONE, "a message");
+    message[sizeof message - 1] |= 1;
+    given[0] ^= 1;
+    memcpy(kept, given, sizeof given);
+    dawnstook_message_read padded = dawnstook_read_message(given, sizeof given, message, sizeof message, DAWNSTOOK_FORM_CED);
+    need(bare_message(padded) && memcmp(given, kept, sizeof given) == 0, "a refusal carries no data, and leaves the buffer");
+    printf(" %d\n", padded.number);
     need(memcmp(room, before, SIZE) == 0, "a refusal changes no byte");
     puts("a refusal changes no byte");
 }
@@ -367,8 +452,10 @@ enum { ARGUMENTS = 8, STACKED_BYTES = 2 * 8 };
 static uint8_t stack[1 << 14], stack_room[DAWNSTOOK_ROOM_SIZE(DAWNSTOOK_MOST_ROWS, DAWNSTOOK_MOST_SLOTS)];
 static uint8_t stack_word[DAWNSTOOK_WORD_BYTES], stack_given[DAWNSTOOK_CED_BYTES];
 static uint8_t stack_reader[DAWNSTOOK_READER_BYTES], stack_record[9 + DAWNSTOOK_WORD_BYTES], stack_out[DAWNSTOOK_LONGEST_LINE];
+static uint8_t stack_message[DAWNSTOOK_CED_MESSAGE_BYTES];
 static volatile uint32_t stack_time = START;
-static volatile uint8_t stack_number;
+static volatile uint8_t stack_number, stack_form;
+static volatile size_t stack_data, stack_bytes;
 static size_t stack_most;
 static size_t needed(void (*call)(void), const uint64_t *arguments) {
     uint8_t *top = stack + sizeof stack - (uintptr_t)(stack + sizeof stack) % 16;
@@ -403,6 +490,12 @@ static void on_times(void) {
     stack_number = dawnstook_add_seconds(WEEK, START, -1).number | dawnstook_add_subframes(WEEK, START, -1).number
         | dawnstook_gst_subframe(WEEK, START).number | dawnstook_is_subframe(WEEK, START).number
         | dawnstook_subframes_difference(WEEK, START, WEEK, 0).number;
+}
+static void on_build(void) {
+    stack_number = build(stack_message, sizeof stack_message, stack_given, stack_data, stack_form).number;
+}
+static void on_read(void) {
+    stack_number = dawnstook_read_message(stack_given, sizeof stack_given, stack_message, stack_bytes, stack_form).number;
 }
 static void on_end(void) {
     stack_number = dawnstook_end(stack_reader, stack_room, sizeof stack_room, stack_out, sizeof stack_out).number;
@@ -478,6 +571,16 @@ static void stacks(void) {
     within(on_timing, DAWNSTOOK_NOT_ENOUGH, "asking timing");
     within(on_reset, DAWNSTOOK_DONE, "reset");
     within(on_times, DAWNSTOOK_DONE, "times");
+    for (size_t f = 0; f < FORMS; f++) {
+        stack_form = forms[f].form, stack_data = forms[f].data, stack_bytes = forms[f].bytes;
+        within(on_build, DAWNSTOOK_DONE, "a message");
+        within(on_read, DAWNSTOOK_DONE, "a message read back");
+        stack_message[stack_bytes - 1] |= 1;
+        within(on_read, DAWNSTOOK_PADDING_SET, "a message with a bit behind its data");
+        stack_data--, stack_bytes--;
+        within(on_build, DAWNSTOOK_NOT_ALLOWED, "a message of data that is too short");
+        within(on_read, DAWNSTOOK_NOT_ALLOWED, "a message that is too short");
+    }
     fprintf(stderr, "caller: the deepest call needed %zu bytes of stack\n", stack_most);
     need(stack_most <= DAWNSTOOK_STACK_BYTES, "the stack is enough");
     printf("no call needed more than %d bytes of stack\n", DAWNSTOOK_STACK_BYTES);

@@ -1,7 +1,8 @@
-"""Holds the C header and the Rust crate to the code: to the exports of crates/ffi, ffi_intake and ffi_orbit the names of the calls and of
-each the number, the order and the width of its parameters, what it hands back, and the fields of the structs; to crates/refusals the
-numbers, those of an input to benchlines and intake, and those of an orbit to orbit; to the crates that have them the limits and sizes; to
-the definitions of crates/paper the order of refusals in the header's comments; and to each other names, texts, codes and versions.
+"""Holds the C header and the Rust crate to the code: to the exports of crates/ffi, ffi_intake, ffi_orbit and ffi_message the names of the
+calls and of each the number, the order and the width of its parameters, what it hands back, and the fields of the structs; to
+crates/refusals the numbers, those of an input to benchlines and intake, those of an orbit to orbit and that of a message to message; to
+the crates that have them the limits, sizes, kinds and forms; to the definitions of crates/paper the order of refusals in the header's
+comments; and to each other names, texts, codes and versions.
 
 usage: declarations.py      in the repository's top folder
 """
@@ -12,7 +13,7 @@ import sys
 HEADER, SYS, RUST = "include/dawnstook.h", "rust/src/sys.rs", "rust/src/"
 
 # the crates that have exports
-EXPORTS = ["ffi", "ffi_intake", "ffi_orbit"]
+EXPORTS = ["ffi", "ffi_intake", "ffi_orbit", "ffi_message"]
 
 # a slice is a pointer and a length, an array a pointer alone: its length is one of CONSTANTS
 RATTLE = {"&mut [u8]": ["*mut u8", "usize"], "&[u8]": ["*const u8", "usize"], "&mut [u8; READER]": ["*mut u8"]}
@@ -22,7 +23,7 @@ C = {
 }
 
 # the crates that have the structs which the exports hand back, and those inside of them; and the Rust files, the declarations' first
-STRUCTS = ["ffi", "intake", "fields", "orbit", "ffi_orbit"]
+STRUCTS = ["ffi", "intake", "fields", "orbit", "ffi_orbit", "ffi_message"]
 RUST_STRUCTS = [SYS, RUST + "orbit.rs"]
 
 # the code's names of structs that are others outside, where they are for those who read them
@@ -37,6 +38,9 @@ OF_INPUT = {"UnknownKind": ("benchlines", "UNKNOWN_KIND"), "CutShort": ("intake"
 # the numbers that only reading an orbit answers
 OF_ORBIT = {"IssuesDiffer": ("orbit", "ISSUES_DIFFER"), "OtherSatellite": ("orbit", "OTHER_SATELLITE")}
 
+# the number that only reading a message back answers
+OF_MESSAGE = {"PaddingSet": ("message", "PADDING_SET")}
+
 # a constant of the header and of the crate, and the code's: its crate and its name there
 CONSTANTS = {
     "MOST_ROWS": ("layout", "MOST_ROWS"), "MOST_SLOTS": ("layout", "MOST_SLOTS"), "MOST_ROOM": ("layout", "MOST_ROOM"),
@@ -46,6 +50,9 @@ CONSTANTS = {
     "LEAST_COUNT": ("ask", "LEAST_COUNT"), "MOST_SATELLITES": ("svn", "MOST_SATELLITES"), "WORD_BYTES": ("limits", "WORD_BYTES"),
     "WEEK_SECONDS": ("gst", "WEEK_SECONDS"), "SUBFRAME_SECONDS": ("gst", "SUBFRAME_SECONDS"),
     "MOST_SUBFRAMES": ("gst", "MOST_SUBFRAMES"), "READER_BYTES": ("intake", "READER"), "LONGEST_LINE": ("lines", "LONGEST_LINE"),
+    "MOST_MESSAGE_WEEK": ("message", "MOST_WEEK"), "MOST_COUNTER": ("message", "MOST_COUNTER"),
+    "CED_MESSAGE_BYTES": ("message", "CED_MESSAGE"), "TAG0_MESSAGE_BYTES": ("message", "TAG0_MESSAGE"),
+    "TIMING_MESSAGE_BYTES": ("message", "TIMING_MESSAGE"),
 }
 
 # the definition of crates/paper that has the order of a call's refusals, and the family where it goes by that
@@ -53,13 +60,15 @@ ORDERS = {
     "fresh": ("freshNumber", None), "feed": ("feedNumber", None), "candidate": ("candidateNumber", None), "tag": ("tagNumber", None),
     "get_ced_and_status": ("askNumber", None), "get_timing_parameters": ("askNumber", None), "reset_authbits": ("resetNumber", None),
     "get_orbit": ("numbersNumber", "CED"), "get_timing_numbers": ("numbersNumber", "Timing"),
+    "build_message": ("buildNumber", None), "read_message": ("readNumber", None),
 }
 
-# the codes of the header and of the crate, whose names are galileo-osnma's
+# the codes of the header and of the crate, whose names are galileo-osnma's but for the forms
 CODES = {
     "band": ("InavBand", {"E1B": "E1B", "E5B": "E5B"}),
     "kind": ("Adkd", {"CED": "InavCed", "TIMING": "InavTiming", "SLOW_CED": "SlowMac"}),
     "status": ("NmaStatus", {"RESERVED": "Reserved", "TEST": "Test", "OPERATIONAL": "Operational", "DONT_USE": "DontUse"}),
+    "form": ("Form", {"FORM_CED": "Ced", "FORM_TAG0": "Tag0", "FORM_TIMING": "Timing"}),
 }
 
 
@@ -209,7 +218,7 @@ def constant_of(crate, name, code):
 
 def constants_of_header(text):
     size = re.search(r"#define DAWNSTOOK_ROOM_SIZE\(d, n\) \\\n(.*)", text).group(1)
-    found = dict(re.findall(r"^#define DAWNSTOOK_([A-Z_]+) +([^\"\n{]+)$", text, re.M))
+    found = dict(re.findall(r"^#define DAWNSTOOK_([A-Z0-9_]+) +([^\"\n{]+)$", text, re.M))
     return constants_with(found, size)
 
 
@@ -264,7 +273,7 @@ def order_of(name, bodies):
 
 
 def orders_of_definitions():
-    text = "\n\n".join(re.sub(r"--[^\n]*", "", read(f"crates/paper/specs/{file}.antt")) for file in ("Answer", "Orbit"))
+    text = "\n\n".join(re.sub(r"--[^\n]*", "", read(f"crates/paper/specs/{file}.antt")) for file in ("Answer", "Orbit", "Message"))
     bodies = dict(re.findall(r"^((?:until|from)\w+|\w+Number) [^:=\n]*=(.*?)(?=\n\n|\Z)", text, re.S | re.M))
     families = {f: dict(re.findall(rf"^(\w+Tests) {f} [^:=\n]*=(.*)$", text, re.M)) for f in ("CED", "Timing")}
     return {call: order_of(name, dict(bodies, **families.get(family, {}))) for call, (name, family) in ORDERS.items()}
@@ -316,14 +325,14 @@ def numbers(held, header):
         sys.exit("outside: no numbers found in crates/refusals")
     in_code = constants_of_code()
     own = len(code)
-    code.update({n: constant_of(*at, in_code) for n, at in {**OF_INPUT, **OF_ORBIT}.items()})
+    code.update({n: constant_of(*at, in_code) for n, at in {**OF_INPUT, **OF_ORBIT, **OF_MESSAGE}.items()})
     held.same(f"{HEADER}: numbers", {camel(n): v for n, v in of_c.items()}, dict(Done=0, **code))
     held.same(f"{RUST}refusal.rs: numbers", {n: v for n, (v, _) in of_rust_table.items()}, code)
     held.same(f"{HEADER}: numbers that have a text", sorted(texts), sorted(of_c))
     held.same(f"{RUST}refusal.rs: texts", {n: t for n, (_, t) in of_rust_table.items()},
               {camel(n): t for n, t in texts.items() if n != "DONE"})
-    held.done(before, f"header and crate have the {own} numbers of crates/refusals, the {len(OF_INPUT)} of an input and the {len(OF_ORBIT)} of "
-              "an orbit, and one text for each")
+    held.done(before, f"header and crate have the {own} numbers of crates/refusals, the {len(OF_INPUT)} of an input, the {len(OF_ORBIT)} "
+              "of an orbit and that of a message, and one text for each")
 
 
 def orders(held, _):
@@ -331,21 +340,23 @@ def orders(held, _):
     said, expected = orders_of_header(read(HEADER)), orders_of_definitions()
     for call in ORDERS:
         held.same(f"{HEADER}: numbers at the end of the comment on dawnstook_{call}", said.get(call), expected[call])
-    held.done(before, f"the header has the order of refusals of the {len(ORDERS)} calls on a room as crates/paper has it")
+    held.done(before, f"the header has the order of refusals of the {len(ORDERS)} calls on a room or a message as crates/paper has it")
 
 
 def codes(held, header):
     before = held.wrong
-    store = read(RUST + "store.rs")
+    rust = read(RUST + "store.rs") + read(RUST + "message.rs")
     for name, (rust_name, names) in CODES.items():
         of_c = enum_of_header(header, name)
-        body = re.search(r"^    " + rust_name + r" \{(.*?)^    \}", store, re.S | re.M).group(1)
+        body = re.search(r"^    " + rust_name + r" \{(.*?)^    \}", rust, re.S | re.M).group(1)
         in_rust = {n: int(v) for n, v in re.findall(r"^ +(\w+) = (\d+),$", body, re.M)}
-        held.same(f"{RUST}store.rs: {rust_name}", in_rust, {names.get(n): v for n, v in of_c.items()})
+        held.same(f"{RUST}: {rust_name}", in_rust, {names.get(n): v for n, v in of_c.items()})
     code = constants_of_code()
     kinds = {n: constant_of("limits", n + "_KIND", code) for n in CODES["kind"][1]}
     held.same(f"{HEADER}: kinds", enum_of_header(header, "kind"), kinds)
-    held.done(before, "header and crate have the same codes, the kinds those of crates/limits")
+    forms = {n: constant_of("message", n[len("FORM_"):] + "_FORM", code) for n in CODES["form"][1]}
+    held.same(f"{HEADER}: forms", enum_of_header(header, "form"), forms)
+    held.done(before, "header and crate have the same codes, the kinds those of crates/limits, the forms those of crates/message")
 
 
 def scales(held, _):

@@ -16,6 +16,10 @@ pub const MOST_SUBFRAMES: i32 = 71_582_788;
 pub const MOST_COP: u8 = 15;
 /// The lengths of a tag, in bits.
 pub const TAG_BITS: [u8; 5] = [20, 24, 28, 32, 40];
+/// The greatest week of a tag's message, which has 12 bits for it.
+pub const MOST_MESSAGE_WEEK: u16 = 4095;
+/// The counter of a tag in its MACK is 1 to this.
+pub const MOST_COUNTER: u8 = 255;
 /// The bits of tags that data needs before it is handed out.
 pub const LEAST_COUNT: u16 = 40;
 /// Where the count of bits of tags stops.
@@ -30,6 +34,12 @@ pub const CED_BYTES: usize = 69;
 pub const TIMING_BITS: usize = 141;
 /// The bytes that hold them.
 pub const TIMING_BYTES: usize = 18;
+/// The bytes of a message of [`crate::Form::Ced`], the longest.
+pub const CED_MESSAGE_BYTES: usize = 76;
+/// The bytes of a message of [`crate::Form::Tag0`].
+pub const TAG0_MESSAGE_BYTES: usize = 75;
+/// The bytes of a message of [`crate::Form::Timing`].
+pub const TIMING_MESSAGE_BYTES: usize = 25;
 /// The bytes of the room before its rows.
 pub const HEADER_BYTES: usize = 8;
 /// The bytes of a row before its slots.

@@ -3,8 +3,8 @@ use core::fmt;
 
 macro_rules! refusals {
     ($($name:ident = $number:literal: $text:literal,)*) => {
-        /// Why a call refused. A call of a [`crate::Store`] that refuses changes no byte of the room; with `UnknownKind` and `CutShort` a
-        /// [`crate::Reader`] says why its input has ended.
+        /// Why a call refused. A call of a [`crate::Store`] that refuses changes no byte of the room, and one of a message no byte of its
+        /// buffer; with `UnknownKind` and `CutShort` a [`crate::Reader`] says why its input has ended.
         #[derive(Clone, Copy, Debug, PartialEq, Eq, Hash)]
         pub enum Refusal {
             $(
@@ -56,9 +56,9 @@ refusals! {
     NoSatellite = 4: "no satellite has this number",
     TowTooLarge = 5: "time of week not below the seconds of a week",
     NotAStart = 6: "MACK time not the start of a subframe",
-    TimeArithmetic = 7: "the sum of a time and a span is refused",
-    NotAllowed = 8: "length of a word, COP or length of a tag not allowed",
-    UnknownCode = 9: "band, kind or status unknown",
+    TimeArithmetic = 7: "the sum of a time and a span is refused, or the week too large for a message",
+    NotAllowed = 8: "COP, counter, or length of a word, tag, data, message or buffer not allowed",
+    UnknownCode = 9: "band, kind, status or form unknown",
     NoCandidate = 10: "no data that the tag could be of",
     OtherData = 11: "the data given is not the candidate's",
     NotEnough = 12: "no record of the satellite has enough bits of tags",
@@ -69,6 +69,7 @@ refusals! {
     StatusAddsNothing = 18: "status reserved or don't use, nothing added",
     IssuesDiffer = 21: "the IODnav of words 1 to 4 are not all equal",
     OtherSatellite = 22: "word 4 names another satellite",
+    PaddingSet = 26: "a bit behind the data of a message is set",
 }
 
 impl core::error::Error for Refusal {}

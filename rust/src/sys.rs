@@ -1,5 +1,5 @@
 //! The archive's exports, a slice as a pointer and a length, a reader as a pointer alone. `tools/outside` checks them against crates/ffi,
-//! ffi_intake and ffi_orbit.
+//! ffi_intake, ffi_orbit and ffi_message.
 use crate::orbit::{Scaled, ScaledTiming, Word1, Word10, Word2, Word3, Word4, Word5, Word6};
 
 #[repr(C)]
@@ -83,6 +83,23 @@ pub struct Timing {
     pub scaled: ScaledTiming,
 }
 
+#[repr(C)]
+pub struct MessageBuilt {
+    pub number: u8,
+    pub bytes: usize,
+}
+
+#[repr(C)]
+pub struct MessageRead {
+    pub number: u8,
+    pub prnd: u8,
+    pub prna: u8,
+    pub status: u8,
+    pub week: u16,
+    pub time: u32,
+    pub counter: u32,
+}
+
 extern "C" {
     // the crate's own room_size is a const fn, which the tests hold to this
     #[allow(dead_code)]
@@ -124,4 +141,18 @@ extern "C" {
         out_len: usize,
     ) -> Heard;
     pub fn dawnstook_end(reader: *mut u8, room: *const u8, room_len: usize, out: *mut u8, out_len: usize) -> Closed;
+    pub fn dawnstook_build_message(
+        out: *mut u8,
+        out_len: usize,
+        given: *const u8,
+        given_len: usize,
+        prna: u8,
+        prnd: u8,
+        week: u16,
+        time: u32,
+        form: u8,
+        status: u8,
+        counter: u32,
+    ) -> MessageBuilt;
+    pub fn dawnstook_read_message(out: *mut u8, out_len: usize, message: *const u8, message_len: usize, form: u8) -> MessageRead;
 }

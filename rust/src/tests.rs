@@ -27,7 +27,7 @@ fn only_zero_is_success() {
         }
     }
     assert_eq!(Refusal::check(15), Err(Refusal::Unlisted(15)));
-    assert_eq!(Refusal::Unlisted(15).to_string(), "answer 15 is not one of version 0.4.1");
+    assert_eq!(Refusal::Unlisted(15).to_string(), "answer 15 is not one of version 0.5.0");
 }
 
 type OrbitNumbers = (u8, u16, u16, u32, (Word1, Word2, Word3, Word4, Word5), [u64; 23]);
@@ -115,6 +115,186 @@ fn numbers_are_the_archives() {
     tag(&mut room, Adkd::InavCed);
     refused(&room, 11, 21);
     assert_eq!(parameter_numbers(&room, 11), read_parameters);
+}
+
+/// What building a message is given: numbers that may be wrong, data, and the bytes of the buffer.
+#[derive(Clone, Debug)]
+struct Asked {
+    prna: u8,
+    prnd: u8,
+    week: u16,
+    time: u32,
+    form: u8,
+    status: u8,
+    counter: u32,
+    given: Vec<u8>,
+    room: usize,
+}
+
+const FORMS: [Form; 3] = [Form::Ced, Form::Tag0, Form::Timing];
+const LENT: u8 = 0xa5;
+
+/// A message of week 1177, time 175770, with a buffer that is longer by three bytes.
+fn asked(form: Form, byte: u8) -> Asked {
+    let (given, room) = (vec![byte; form.data_bytes()], form.message_bytes() + 3);
+    Asked { prna: 2, prnd: 1, week: WEEK, time: START + 30, form: form as u8, status: 2, counter: 3, given, room }
+}
+
+impl Asked {
+    /// The number, the bytes, and the whole buffer afterwards.
+    fn build(&self) -> (u8, usize, Vec<u8>) {
+        let mut out = vec![LENT; self.room];
+        let Asked { prna, prnd, week, time, form, status, counter, ref given, room } = *self;
+        let built = unsafe {
+            let (start, data) = (out.as_mut_ptr(), given.as_ptr());
+            sys::dawnstook_build_message(start, room, data, given.len(), prna, prnd, week, time, form, status, counter)
+        };
+        (built.number, built.bytes, out)
+    }
+
+    /// The message bit by bit, whatever the fields are, and what stands in its last bits.
+    fn packed(&self, behind: u32) -> Vec<u8> {
+        let mut bits = Vec::new();
+        let mut put = |width: u32, value: u32| bits.extend((0..width).rev().map(|i| (value >> i & 1) as u8));
+        if self.form != Form::Tag0 as u8 {
+            put(8, self.prnd.into());
+        }
+        put(8, self.prna.into());
+        put(12, self.week.into());
+        put(20, self.time);
+        put(8, self.counter);
+        put(2, self.status.into());
+        let data = if self.form == Form::Timing as u8 { TIMING_BITS } else { CED_BITS };
+        for i in 0..data {
+            put(1, (self.given[i / 8] >> (7 - i % 8)).into());
+        }
+        let left = (8 - bits.len() % 8) % 8;
+        bits.extend((0..left).rev().map(|i| (behind >> i & 1) as u8));
+        bits.chunks(8).map(|byte| byte.iter().fold(0, |byte, bit| byte << 1 | bit)).collect()
+    }
+
+    /// The same numbers with another wrong one.
+    fn with(&self, wrong: impl Fn(&mut Asked)) -> Asked {
+        let mut asked = self.clone();
+        wrong(&mut asked);
+        asked
+    }
+}
+
+/// All that reading back hands out, and the whole buffer afterwards.
+fn read_back(message: &[u8], form: u8, room: usize) -> ([u32; 7], Vec<u8>) {
+    let mut out = vec![LENT; room];
+    let read = unsafe { sys::dawnstook_read_message(out.as_mut_ptr(), room, message.as_ptr(), message.len(), form) };
+    let fields = [read.number, read.prnd, read.prna, read.status].map(u32::from);
+    ([fields[0], fields[1], fields[2], fields[3], read.week.into(), read.time, read.counter], out)
+}
+
+/// Behind the message, and behind the data that is read back, the buffer stays.
+#[test]
+fn messages_are_bits_in_their_order() {
+    let lent = [LENT; 3];
+    for form in FORMS {
+        for (i, byte) in (0..=u8::MAX).enumerate() {
+            let mut asked = asked(form, byte);
+            (asked.prna, asked.prnd, asked.status) = (1 + byte % 36, 36 - byte % 36, byte % 4);
+            (asked.week, asked.time, asked.counter) = (16 * u16::from(byte) + 15, 604_770 - 2340 * u32::from(byte), u32::from(byte).max(1));
+            asked.given[i % form.data_bytes()] ^= 0x5a;
+            let message = asked.packed(0);
+            assert_eq!(asked.build(), (0, form.message_bytes(), [&message[..], &lent].concat()));
+            let prnd = if form == Form::Tag0 { 0 } else { asked.prnd };
+            let fields = [0, prnd.into(), asked.prna.into(), asked.status.into(), asked.week.into(), asked.time, asked.counter];
+            *asked.given.last_mut().unwrap() &= 0xf8;
+            assert_eq!(read_back(&message, asked.form, form.data_bytes() + 3), (fields, [&asked.given[..], &lent].concat()));
+        }
+    }
+}
+
+type Wrong = (u8, fn(&mut Asked));
+
+/// Of two wrong arguments the one that is tested first is answered, nothing comes beside it, and the buffer stays.
+#[test]
+fn building_refuses_in_order() {
+    let wrong: [Wrong; 21] = [
+        (4, |asked| asked.prna = 0),
+        (4, |asked| asked.prna = MOST_SATELLITES + 1),
+        (4, |asked| asked.prna = 255),
+        (4, |asked| asked.prnd = 0),
+        (4, |asked| asked.prnd = MOST_SATELLITES + 1),
+        (4, |asked| asked.prnd = 255),
+        (5, |asked| asked.time = WEEK_SECONDS),
+        (5, |asked| asked.time = u32::MAX),
+        (6, |asked| asked.time = START + 1),
+        (6, |asked| asked.time = WEEK_SECONDS - 1),
+        (9, |asked| asked.form = 3),
+        (9, |asked| asked.form = 255),
+        (9, |asked| asked.status = 4),
+        (9, |asked| asked.status = 255),
+        (7, |asked| asked.week = MOST_MESSAGE_WEEK + 1),
+        (7, |asked| asked.week = u16::MAX),
+        (8, |asked| asked.counter = 0),
+        (8, |asked| asked.counter = u32::from(MOST_COUNTER) + 1),
+        (8, |asked| asked.given.push(0)),
+        (8, |asked| asked.given.clear()),
+        (8, |asked| asked.room = 0),
+    ];
+    for form in FORMS {
+        let right = asked(form, 0xff);
+        for (i, (number, first)) in wrong.iter().enumerate() {
+            for (_, second) in &wrong[i..] {
+                let asked = right.with(second).with(first);
+                assert_eq!(asked.build(), (*number, 0, vec![LENT; asked.room]), "{asked:?}");
+            }
+        }
+        for bytes in 0..=2 * CED_BYTES {
+            let asked = right.with(|asked| asked.given.resize(bytes, 0));
+            assert_eq!(asked.build().0, if bytes == form.data_bytes() { 0 } else { 8 }, "{asked:?}");
+        }
+        for room in 0..=2 * CED_MESSAGE_BYTES {
+            let asked = right.with(|asked| asked.room = room);
+            assert_eq!(asked.build().0, if room < form.message_bytes() { 8 } else { 0 }, "{asked:?}");
+        }
+    }
+}
+
+/// The same of reading back: the form and the lengths first, then what stands in the message.
+#[test]
+fn reading_back_refuses_in_order() {
+    let wrong: [Wrong; 12] = [
+        (4, |asked| asked.prnd = 0),
+        (4, |asked| asked.prnd = MOST_SATELLITES + 1),
+        (4, |asked| asked.prnd = 255),
+        (4, |asked| asked.prna = 0),
+        (4, |asked| asked.prna = MOST_SATELLITES + 1),
+        (4, |asked| asked.prna = 255),
+        (5, |asked| asked.time = WEEK_SECONDS),
+        (5, |asked| asked.time = (1 << 20) - 1),
+        (6, |asked| asked.time = START + 1),
+        (6, |asked| asked.time = WEEK_SECONDS - 1),
+        (8, |asked| asked.counter = 0),
+        (26, |_| ()),
+    ];
+    let refused = |message: &[u8], form, room, number: u8| {
+        assert_eq!(read_back(message, form, room), ([number.into(), 0, 0, 0, 0, 0, 0], vec![LENT; room]), "{form} {message:?}");
+    };
+    for form in FORMS {
+        let (right, room) = (asked(form, 0xff), form.data_bytes());
+        // tag 0 does not carry the satellite of the data
+        let wrong = if form == Form::Tag0 { &wrong[3..] } else { &wrong };
+        for (i, (number, first)) in wrong.iter().enumerate() {
+            for (_, second) in &wrong[i..] {
+                let mut message = right.with(second).with(first).packed(1);
+                refused(&message, form as u8, room, *number);
+                refused(&message, form as u8, room - 1, 8);
+                refused(&message, form as u8, 0, 8);
+                refused(&message, 3, room, 9);
+                refused(&message, 255, 0, 9);
+                message.push(0);
+                for bytes in (0..=message.len()).filter(|bytes| *bytes != form.message_bytes()) {
+                    refused(&message[..bytes], form as u8, room, 8);
+                }
+            }
+        }
+    }
 }
 
 /// The constructors refuse with the number that the archive answers to the same number.

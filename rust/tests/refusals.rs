@@ -57,6 +57,27 @@ fn read(bytes: &[u8]) -> (Result<(), Refusal>, Result<(), Refusal>) {
     (reader.part_with(&mut room, bytes, |_| ()), reader.end_with(&room, |_| ()))
 }
 
+/// A message of timing parameters of zeros in a tag of E02, with a week and a counter that may be wrong.
+fn message(week: u16, counter: u8) -> Result<[u8; TIMING_MESSAGE_BYTES], Refusal> {
+    let mut message = [0; TIMING_MESSAGE_BYTES];
+    let heading = Heading {
+        prnd: Some(Svn::new(1).unwrap()),
+        prna: Svn::new(2).unwrap(),
+        gst: at(week, 175_770),
+        counter,
+        status: NmaStatus::Operational,
+    };
+    build_message(&mut message, Form::Timing, heading, &[0; TIMING_BYTES])?;
+    Ok(message)
+}
+
+/// What reading a message back refuses with, a byte of it being changed.
+fn read_back(place: usize, byte: u8) -> Refusal {
+    let mut message = message(1177, 3).unwrap();
+    message[place] = byte;
+    read_message(&mut [0; TIMING_BYTES], &message, Form::Timing).unwrap_err()
+}
+
 #[test]
 fn every_refusal_once() {
     let operational = NmaStatus::Operational;
@@ -75,18 +96,25 @@ fn every_refusal_once() {
         (4, Svn::try_from(MOST_SATELLITES + 1).unwrap_err()),
         (4, Svn::try_from(-1).unwrap_err()),
         (4, Svn::try_from(257).unwrap_err()),
+        (4, read_back(0, 0)),
         (5, Tow::try_from(WEEK_SECONDS).unwrap_err()),
         (5, Gst::try_new(0, u32::MAX).unwrap_err()),
+        (5, read_back(3, 0x9f)),
         (6, refused(|store| store.candidate(Tag { mack: at(1177, 175_771), ..tag() }).map(|_| ()))),
+        (6, read_back(5, 0)),
         (7, at(0, 0).add_seconds(-1).unwrap_err()),
         (7, at(65_535, 604_799).add_seconds(1).unwrap_err()),
         (7, at(5, 0).add_subframes(MOST_SUBFRAMES + 1).unwrap_err()),
         (7, refused(|store| store.candidate(Tag { mack: at(0, 0), ..tag() }).map(|_| ()))),
+        (7, message(MOST_MESSAGE_WEEK + 1, 3).unwrap_err()),
         (8, refused(|store| store.candidate(Tag { cop: MOST_COP + 1, ..tag() }).map(|_| ()))),
         (8, refused(|store| store.tag(tag(), 21, operational, &given(), true))),
+        (8, message(1177, 0).unwrap_err()),
+        (8, read_back(6, 0)),
         (9, InavBand::try_from(2).unwrap_err()),
         (9, Adkd::try_from(1).unwrap_err()),
         (9, NmaStatus::try_from(4).unwrap_err()),
+        (9, Form::try_from(3).unwrap_err()),
         (10, refused(|store| store.candidate(Tag { mack: at(1177, 175_800), ..tag() }).map(|_| ()))),
         (11, refused(|store| store.tag(tag(), 40, operational, &[0; CED_BYTES], true))),
         (11, refused(|store| store.tag(tag(), 40, operational, &[], true))),
@@ -102,6 +130,7 @@ fn every_refusal_once() {
         (18, refused(|store| store.tag(tag(), 40, NmaStatus::DontUse, &given(), true))),
         (21, unreadable(filled())),
         (22, unreadable(filled_with(|_| 0))),
+        (26, read_back(TIMING_MESSAGE_BYTES - 1, 1)),
     ];
     assert_eq!(blank, [7; ROOM]);
     for (number, why) in seen {
@@ -109,7 +138,7 @@ fn every_refusal_once() {
     }
     let numbers = |all: &[Refusal]| all.iter().map(|why| why.number()).collect::<BTreeSet<_>>();
     assert_eq!(numbers(&seen.map(|(_, why)| why)), numbers(Refusal::ALL));
-    assert_eq!(numbers(Refusal::ALL), (1..=14).chain(16..=18).chain(21..=22).collect());
+    assert_eq!(numbers(Refusal::ALL), (1..=14).chain(16..=18).chain(21..=22).chain([26]).collect());
 }
 
 #[test]
