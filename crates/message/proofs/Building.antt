@@ -1,12 +1,12 @@
 -- What `build` does behind its tests: what the writer asks, and what it leaves. Assumes nothing.
 use mathlib.Core.List.{List, [], _∷_, _++_}
-use mathlib.Core.Path.{_≡_, refl, sym, ap, _∙_, subst}
+use mathlib.Core.Path.{_≡_, sym, ap, _∙_, subst}
 use Prim.Native.Nat.{ℕ, _+_, _-_, _*_, _/_, _^_, _≤_, _<_}
 use native.Mathlib.Omega.{arith}
 use lib.ListN.{length, take, drop, length-take}
-use Rattle.paper.specs.Number.{Answer, done, refused, answer}
+use Rattle.paper.specs.Number.{done, refused, answer}
 use Rattle.paper.specs.Parts.{onPart}
-use Rattle.paper.specs.Record.{recordBits, dataBytes}
+use Rattle.paper.specs.Record.{recordBits}
 use Rattle.paper.specs.Message.{Head, formFamily, headWidth, headFields, messageBytes, messageBits, message, digitsOf, fieldBits, bitsFrom, inBytes}
 use Rattle.paper.specs.Message.{buildNumber, buildAnswer, buildBuffer}
 use Rattle.paper.proofs.Parts.{part-back}

@@ -1,14 +1,14 @@
 -- STORE 21.5, of the two calls: what building answered with 0 is read back with 0, its carried fields and its data; two inputs of one form that
 -- were both built and gave one message carry the same; what reading back answered with 0 is built again. Assumes nothing.
-use mathlib.Core.Bool.{Bool, true, false, cond, not, _&&_, _||_}
+use mathlib.Core.Bool.{Bool, true, false, cond, not, _||_}
 use mathlib.Core.List.{List, [], _∷_}
 use mathlib.Core.Path.{_≡_, refl, sym, ap, _∙_}
-use Prim.Native.Nat.{ℕ, _+_, _-_, _*_, _/_, _^_, _≤_, _<_}
+use Prim.Native.Nat.{ℕ, _+_, _-_, _≤_}
 use native.Mathlib.Omega.{arith}
 use borrow.Author.Tests.{leb-true, le-leb, eq-eqb, ne-eqb, eqb-false}
 use lib.Dec.{eqb, leb}
 use lib.ListN.{length}
-use Rattle.paper.specs.Number.{done, unless}
+use Rattle.paper.specs.Number.{done}
 use Rattle.paper.specs.Time.{isTime, isStart}
 use Rattle.paper.specs.Satellite.{isSatellite}
 use Rattle.paper.specs.Parts.{Bytes, onPart}
@@ -21,7 +21,7 @@ use Rattle.paper.proofs.Order.{unless-zero}
 use Rattle.paper.proofs.StoreFacts.{both-true, true-both}
 use Rattle.paper.proofs.Fields.{bits-small}
 use Rattle.packing.proofs.Rows.{bytes-length}
-use Rattle.message.specs.Outcome.{wellLong, lengthsNumber, fieldsNumber}
+use Rattle.message.specs.Outcome.{lengthsNumber, fieldsNumber}
 use Rattle.message.proofs.Passed.{Allowed, build-passed, satellite-fits, allowed-fits}
 use Rattle.message.proofs.Reading.{read-zero, zero-read, lengths-passed}
 use Rattle.message.proofs.Trips.{carried, clean, message-length, head-back, data-back, padding-back, one-message, rebuilt}

@@ -4,13 +4,12 @@ use mathlib.Core.Bool.{Bool, true, false, cond}
 use mathlib.Core.List.{List, [], _∷_, _++_, append-assoc, append-nil}
 use mathlib.Core.Path.{_≡_, refl, sym, ap, _∙_, subst}
 use Prim.Native.Nat.{ℕ, zero, suc, _+_, _-_, _*_, _/_, _%_, _^_, _≤_, _<_}
-use native.Mathlib.Nat.{add-zero, zero-add, add-assoc, lt-of-lt-of-le, pow-suc}
+use native.Mathlib.Nat.{add-zero, zero-add}
 use native.Mathlib.Omega.{arith}
-use lib.Dec.{eqb}
 use lib.Pow.{high, low, shr-shr, pow-add}
 use lib.Arith.{digits-lt}
 use Rattle.paper.specs.Field.{pick}
-use Rattle.paper.specs.Message.{Head, afterPrnd, headFields, isTagZero, prndWidth, headWidth, digitsOf, fieldBits}
+use Rattle.paper.specs.Message.{Head, afterPrnd, headFields, isTagZero, headWidth, digitsOf, fieldBits}
 use Rattle.paper.proofs.Digits.{low-digit}
 use Rattle.message.specs.Heads.{joined, headNumber}
 

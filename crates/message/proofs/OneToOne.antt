@@ -1,6 +1,6 @@
 -- What building and reading back came to is known by the paper's number and values: no two outcomes have the same. Assumes nothing.
 use native.Mathlib.Omega.{arith}
-use mathlib.Core.Path.{_≡_, refl, ap, _∙_}
+use mathlib.Core.Path.{_≡_, refl, ap}
 use Prim.Native.Nat.{ℕ}
 use Rattle.paper.specs.Number.{number}
 use Rattle.refusals.proofs.Answers.{same-refusal, above-zero, at-most}

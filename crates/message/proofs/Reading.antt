@@ -1,17 +1,16 @@
 -- What `read` does: its refusals in their order, the fields of the head's number, the padding, and the data. Assumes nothing.
-use mathlib.Core.Bool.{Bool, true, false, cond, not, _&&_}
-use mathlib.Core.List.{List, [], _∷_, _++_}
-use mathlib.Core.Path.{_≡_, refl, sym, ap, _∙_, subst}
-use Prim.Native.Nat.{ℕ, zero, suc, _+_, _-_, _*_, _/_, _%_, _^_, _≤_, _<_}
+use mathlib.Core.Bool.{Bool, true, false, cond, not}
+use mathlib.Core.List.{List, [], _++_}
+use mathlib.Core.Path.{_≡_, refl, sym, ap, _∙_}
+use Prim.Native.Nat.{ℕ, zero, _+_, _-_, _*_, _/_, _%_, _^_, _≤_, _<_}
 use native.Mathlib.Nat.{lt-of-lt-of-le, add-zero}
 use native.Mathlib.Omega.{arith}
 use borrow.Author.Tests.{leb-true, eqb-true, eqb-false, eq-eqb, ne-eqb}
 use lib.Dec.{eqb, leb}
 use lib.Pow.{pow-mono, high}
 use lib.ListN.{length, getD, take, drop, length-take}
-use Rattle.paper.specs.Number.{Answer, done, refused, answer, unless}
+use Rattle.paper.specs.Number.{done, refused, answer, unless}
 use Rattle.paper.specs.Time.{isTime, isStart}
-use Rattle.paper.specs.Bits.{bitAt}
 use Rattle.paper.specs.Parts.{onPart}
 use Rattle.paper.specs.Record.{recordBits, dataBytes}
 use Rattle.paper.specs.Field.{bitsAt}

@@ -1,11 +1,11 @@
 -- The sizes of the forms: the head is whole bytes and two bits, the data lacks three bits of its bytes, and so one bit is left. Assumes nothing.
 use mathlib.Core.Bool.{Bool, true, false, cond}
 use mathlib.Core.Path.{_≡_, refl}
-use Prim.Native.Nat.{ℕ, _+_, _-_, _*_, _/_, _≤_, _<_}
+use Prim.Native.Nat.{ℕ, _+_, _-_, _*_, _/_, _≤_}
 use lib.Dec.{eqb}
 use native.Mathlib.Omega.{arith}
 use Rattle.paper.specs.Record.{familyIf, recordBits, dataBytes}
-use Rattle.paper.specs.Message.{formFamily, isTagZero, prndWidth, headWidth, messageBytes}
+use Rattle.paper.specs.Message.{formFamily, isTagZero, headWidth, messageBytes}
 
 module _ (form : ℕ) where
   pub head-bytes-and-two : headWidth form ≡ 8 * (headWidth form / 8) + 2

@@ -2,22 +2,22 @@
 -- message; and what reads back is what building gives. Once over the form's head and the data's width. Assumes nothing.
 use mathlib.Core.Bool.{Bool, true, false, cond}
 use mathlib.Core.List.{List, [], _∷_, _++_, append-nil}
-use mathlib.Core.Path.{_≡_, refl, sym, ap, _∙_, subst}
-use Prim.Native.Nat.{ℕ, zero, suc, _+_, _-_, _*_, _/_, _%_, _^_, _≤_, _<_}
+use mathlib.Core.Path.{_≡_, refl, sym, ap, _∙_}
+use Prim.Native.Nat.{ℕ, _+_, _-_, _*_, _/_, _%_, _^_, _≤_, _<_}
 use native.Mathlib.Nat.{add-zero, zero-add}
 use native.Mathlib.Omega.{arith}
 use native.Mathlib.Decide.{decLt}
 use lib.ListN.{length, getD}
 use Rattle.paper.specs.Parts.{Bytes}
 use Rattle.paper.specs.Bits.{bitAt}
-use Rattle.paper.specs.Record.{Family, recordBits, dataBytes, sameBits}
+use Rattle.paper.specs.Record.{recordBits, dataBytes, sameBits}
 use Rattle.paper.specs.Field.{pick, bitsAt}
 use Rattle.paper.specs.Message.{Head, isTagZero, formFamily, afterPrnd, headFields, prndWidth, headWidth, digitsOf, fieldBits, bitsFrom, inBytes}
 use Rattle.paper.specs.Message.{messageBits, messageBytes, message, readHead, readData, paddingOf}
 use Rattle.packing.proofs.Rows.{AllBits, digits-length, digits-bits, from-length, from-at, from-bits, append-bits, append-first, append-then, past-end, bytes-length, bytes-bytes, bytes-bit, spelled}
-use Rattle.packing.proofs.Behind.{from-same, same-from, from-join, digits-read, read-digits, from-bytes}
+use Rattle.packing.proofs.Behind.{from-same, from-join, digits-read, read-digits, from-bytes}
 use Rattle.message.specs.Heads.{joined, headNumber, headFrom}
-use Rattle.message.proofs.Sizes.{head-bytes-and-two, data-but-three, data-least, one-left}
+use Rattle.message.proofs.Sizes.{head-bytes-and-two, data-but-three, one-left}
 use Rattle.message.proofs.Joined.{Fits, head-digits, head-small, head-computed}
 use Rattle.message.proofs.Reading.{head-read}
 use Rattle.message.proofs.Agree.{bits-agree, agree-bits}

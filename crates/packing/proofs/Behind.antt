@@ -1,17 +1,17 @@
 -- Bits of bytes one behind the other, and a field's digits back from its number. Assumes nothing.
-use mathlib.Core.List.{List, [], _∷_, _++_}
-use mathlib.Core.Path.{_≡_, refl, sym, ap, _∙_}
+use mathlib.Core.List.{List, _++_}
+use mathlib.Core.Path.{_≡_, sym, ap, _∙_}
 use Prim.Native.Nat.{ℕ, zero, suc, _+_, _-_, _*_, _/_, _%_, _^_, _≤_, _<_}
 use native.Mathlib.Omega.{arith}
 use native.Mathlib.Nat.{add-zero, zero-add}
-use lib.ListN.{length, getD}
+use lib.ListN.{getD}
 use lib.Seq.{ext-getD}
 use Rattle.paper.specs.Bits.{bitAt}
 use Rattle.paper.specs.Field.{bitsAt}
 use Rattle.paper.specs.Message.{digitsOf, bitsFrom, inBytes}
 use Rattle.paper.proofs.Digits.{same-digits}
 use Rattle.paper.proofs.Fields.{bits-small, bits-digit}
-use Rattle.packing.proofs.Rows.{AllBits, digits-length, digits-at, from-length, from-at, from-bits, bytes-bit}
+use Rattle.packing.proofs.Rows.{digits-length, digits-at, from-length, from-at, from-bits, bytes-bit}
 
 -- bits that are the same, one by one, are the same list
 pub from-same : (s t : List ℕ) (o p n : ℕ) → ((k : ℕ) → k < n → bitAt s (o + k) ≡ bitAt t (p + k)) → bitsFrom s o n ≡ bitsFrom t p n

@@ -1,16 +1,15 @@
 -- Bits as a list and in bytes, once over their place and their width. Assumes nothing.
 use mathlib.Core.List.{List, [], _∷_, _++_}
-use mathlib.Core.Path.{_≡_, refl, sym, ap, _∙_, subst}
+use mathlib.Core.Path.{_≡_, refl, sym, ap, _∙_}
 use Prim.Native.Nat.{ℕ, zero, suc, _+_, _-_, _*_, _/_, _%_, _^_, _≤_, _<_}
 use native.Mathlib.Omega.{arith}
-use native.Mathlib.Decide.{decLt, ℕ-discrete}
-use native.Mathlib.Nat.{mod-lt, add-zero}
+use native.Mathlib.Decide.{decLt}
+use native.Mathlib.Nat.{mod-lt}
 use lib.Dec.{lit<}
-use lib.ListN.{length, getD, drop, set, length-append, List·getD-append}
+use lib.ListN.{length, getD, drop, List·getD-append}
 use lib.Seq.{getD-drop, getD-append-add}
 use Rattle.paper.specs.Parts.{Bytes}
 use Rattle.paper.specs.Bits.{bitAt}
-use Rattle.paper.specs.Field.{bitsAt}
 use Rattle.paper.specs.Message.{digitsOf, bitsFrom, byteOf, inBytes}
 use Rattle.paper.proofs.Bytes.{bytes-nil, bytes-cons}
 use Rattle.paper.proofs.Bits.{bit-small, same-bits}

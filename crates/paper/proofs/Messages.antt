@@ -5,7 +5,7 @@ use mathlib.Core.Path.{_≡_, refl}
 use Prim.Native.Nat.{ℕ}
 use lib.ListN.{replicate}
 use Rattle.paper.specs.Field.{bitsAt}
-use Rattle.paper.specs.Message.{Head, digitsOf, fieldBits, bitsFrom, inBytes, messageBytes, messageBits, message, buildNumber, readHead, readData, readNumber, paddingOf}
+use Rattle.paper.specs.Message.{Head, digitsOf, fieldBits, bitsFrom, inBytes, messageBytes, messageBits, message, buildNumber, readHead, readData, readNumber}
 
 -- each form's bytes
 pub forms : (messageBytes 0 ≡ 76) × (messageBytes 1 ≡ 75) × (messageBytes 2 ≡ 25)

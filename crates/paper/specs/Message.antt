@@ -47,7 +47,7 @@ abbrev pub prndWidth : ℕ → ℕ
 prndWidth form = cond (isTagZero form) 0 8
 
 abbrev pub headWidth : ℕ → ℕ
-headWidth form = prndWidth form + 50
+headWidth form = prndWidth form + (8 + 12 + 20 + 8 + 2)
 
 -- the w digits of a number in base 2, the top one first
 unfoldable pub digitsOf : ℕ → ℕ → List ℕ

@@ -1,8 +1,5 @@
 -- `are_allowed` tests the counter's two ends, the data's length and the buffer's.
 use borrow.Author.Tests.{le-leb, lt-leb, eq-eqb, ne-eqb}
-use mathlib.Core.Path.{sym, _∙_}
-use native.Mathlib.Omega.{arith}
-use lib.Dec.{leb}
 use Rattle.message.proofs.are_allowed.Statement.{statement}
 use Rattle.message.proofs.are_allowed.Tie as tie
 

@@ -1,6 +1,7 @@
 -- `build` acts only where its tests were passed: then the fields fit, and the buffer is long enough.
-use mathlib.Core.Path.{refl}
+use mathlib.Core.Path.{_≡_, refl}
 use native.Mathlib.Omega.{arith}
+use Rattle.paper.specs.Message.{buildNumber}
 use Rattle.refusals.proofs.Answers.{does}
 use Rattle.message.specs.Outcome.{headOf}
 use Rattle.message.proofs.Passed.{build-passed, allowed-fits}
@@ -27,15 +28,20 @@ returns c =
 enum-told : tie.Need-enum-told
 enum-told c = search needs
 
+-- behind the tests they are passed
+passed : (c : tie.After-enum-told)
+    → let a = c .before .before .before .before .before .before .args in buildNumber (a .form) (headOf (a .h)) (a .given .now) (a .out .now) ≡ 0
+passed c = does _ _ _ (c .enum-told .given .1) (c .before .before .build-entry .ensures)
+
 message-bytes-requires : tie.Need-message-bytes-requires
 message-bytes-requires c κs = search needs
 
 head-number-requires : tie.Need-head-number-requires
 head-number-requires c κs =
-    let entry = c .before .before .before in
-    let a = entry .before .before .before .before .args in
-    let zero = does _ _ _ (c .before .enum-told .given .1) (entry .build-entry .ensures) in
-    let f = allowed-fits (a .form) (headOf (a .h)) (a .given .now) (a .out .now) (build-passed (a .form) (headOf (a .h)) (a .given .now) (a .out .now) zero) in
+    let told = c .before in
+    let a = told .before .before .before .before .before .before .args in
+    let p = build-passed (a .form) (headOf (a .h)) (a .given .now) (a .out .now) (passed told) in
+    let f = allowed-fits (a .form) (headOf (a .h)) (a .given .now) (a .out .now) p in
     (f .week-fits, f .time-fits, f .counter-fits, f .status-fits)
 
 sub-write : tie.Need-sub-write
@@ -47,10 +53,8 @@ part-write-start c = search needs
 part-write-end : tie.Need-part-write-end
 part-write-end c =
     let told = c .before .before in
-    let entry = told .before .before in
-    let a = entry .before .before .before .before .args in
-    let zero = does _ _ _ (told .enum-told .given .1) (entry .build-entry .ensures) in
-    let p = build-passed (a .form) (headOf (a .h)) (a .given .now) (a .out .now) zero in
+    let a = told .before .before .before .before .before .before .args in
+    let p = build-passed (a .form) (headOf (a .h)) (a .given .now) (a .out .now) (passed told) in
     omega (arith, p .with-room, c .before .message-bytes .ensures)
 
 head-bytes-requires : tie.Need-head-bytes-requires
@@ -60,10 +64,8 @@ write-requires : tie.Need-write-requires
 write-requires c κs =
     let number = c .before .before in
     let told = number .before .before in
-    let entry = told .before .before in
-    let a = entry .before .before .before .before .args in
-    let zero = does _ _ _ (told .enum-told .given .1) (entry .build-entry .ensures) in
-    write-asks (a .form) (headOf (a .h)) (a .given .now) (a .out .now) zero _ _ _ (c .head-bytes .ensures) (number .head-number .ensures)
+    let a = told .before .before .before .before .before .before .args in
+    write-asks (a .form) (headOf (a .h)) (a .given .now) (a .out .now) (passed told) _ _ _ (c .head-bytes .ensures) (number .head-number .ensures)
     (number .before .message-bytes .ensures)
 
 same-length-2 : tie.Need-same-length-2
@@ -74,10 +76,8 @@ returns-2 c =
     let head = c .before .before .before in
     let number = head .before .before in
     let told = number .before .before in
-    let entry = told .before .before in
-    let a = entry .before .before .before .before .args in
-    let zero = does _ _ _ (told .enum-told .given .1) (entry .build-entry .ensures) in
-    built (a .form) (headOf (a .h)) (a .given .now) (a .out .now) zero _ _ _ (c .before .before .write .last .0) _ (head .head-bytes .ensures)
+    let a = told .before .before .before .before .before .before .args in
+    built (a .form) (headOf (a .h)) (a .given .now) (a .out .now) (passed told) _ _ _ (c .before .before .write .last .0) _ (head .head-bytes .ensures)
     (number .head-number .ensures) (number .before .message-bytes .ensures) (c .before .before .write .ensures) refl
 
 pub build-spec : {M : Type 1} → statement M

@@ -1,7 +1,7 @@
 -- `fields_entry` tests in the paper's order.
 use mathlib.Core.Path.{sym, _∙_}
 use mathlib.Core.List.{[]}
-use borrow.Author.Tests.{lt-ltb, le-ltb, le-leb, lt-leb, eq-eqb, ne-eqb, not-true, not-false}
+use borrow.Author.Tests.{lt-ltb, le-ltb, eq-eqb, ne-eqb, not-true, not-false}
 use Rattle.entry.proofs.Order.{stop, pass}
 use mathlib.Core.Path.{ap}
 use mathlib.Core.Bool.{not}

@@ -1,5 +1,5 @@
 -- `heading_of` is right: one division behind the other is one by the product.
-use mathlib.Core.Path.{_≡_, refl}
+use mathlib.Core.Path.{_≡_}
 use Prim.Native.Nat.{_/_, _^_}
 use native.Mathlib.Omega.{arith}
 use Rattle.message.specs.Heads.{headFrom}

@@ -1,5 +1,5 @@
 -- `message_bytes` is a sum, since two bits of head and the data's last five share a byte with the padding.
-use mathlib.Core.Path.{sym, _∙_}
+use mathlib.Core.Path.{sym}
 use native.Mathlib.Omega.{arith}
 use Rattle.message.proofs.Sizes.{head-most, data-most, bytes-sum}
 use Rattle.message.proofs.message_bytes.Statement.{statement}

@@ -1,11 +1,8 @@
 -- `big` is right: after i turns the number is that of the first i bytes.
-use mathlib.Core.Path.{_≡_, refl, sym, ap, _∙_}
-use Prim.Native.Nat.{ℕ, _+_, _-_, _*_, _^_, _≤_, _<_}
+use mathlib.Core.Path.{_≡_, refl}
+use Prim.Native.Nat.{_-_, _*_, _≤_}
 use native.Mathlib.Omega.{arith}
-use native.Mathlib.Nat.{lt-of-lt-of-le}
-use lib.Pow.{pow-mono}
 use Rattle.paper.specs.Field.{bitsAt}
-use Rattle.paper.proofs.Fields.{bits-small, bits-bytes}
 use borrow.Author.Needs.{needs}
 use Rattle.packing.proofs.Written.{bytes-so-far, next-byte}
 use Rattle.packing.proofs.big.Statement.{statement}

@@ -1,11 +1,10 @@
 -- `write` is right: the head in whole bytes, the last byte made 0, and one move.
-use mathlib.Core.Path.{ap, _∙_}
-use Prim.Native.Nat.{ℕ, _+_, _-_, _*_, _^_}
+use mathlib.Core.Path.{_∙_}
+use Prim.Native.Nat.{_+_, _-_, _*_}
 use native.Mathlib.Omega.{arith}
 use lib.ListN.{length, length-set}
 use lib.Pow.{pow-mono}
-use Rattle.packing.specs.Big.{putBig}
-use Rattle.packing.proofs.Written.{big-length, row-written}
+use Rattle.packing.proofs.Written.{row-written}
 use borrow.Author.Needs.{needs}
 use Rattle.packing.proofs.write.Statement.{statement}
 use Rattle.packing.proofs.write.Tie as tie
