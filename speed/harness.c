@@ -1,5 +1,5 @@
-/* Calls the port and the unchanged Rust on the same inputs, requires the same answers and the same room after each part, and has the
- * instructions of each part counted by callgrind: collection is on only inside COUNT, and each part is dumped under its name.
+/* Calls the port and the unchanged Rust on the same inputs, requires the same answers, the same messages and the same room after each part,
+ * and has the instructions of each part counted by callgrind: collection is on only inside COUNT, and each part is dumped under its name.
  *
  * usage: harness D N         all parts at this size, each dump named SIDE/PART/CALLS
  *        harness D N stack   the stack that each call of the port needs, by a painted stack */
@@ -17,13 +17,19 @@ void beside_feed(store *s, const uint8_t *word, uint8_t sat, uint16_t week, uint
 uint8_t beside_tag(store *s, uint8_t sat, uint8_t kind, uint8_t cop, uint8_t bits, uint16_t week, uint32_t time);
 beside_told beside_ask(const store *s, bool timing, uint8_t sat);
 void beside_room(const store *s, uint8_t *room, size_t bytes);
+typedef struct beside_mac_key beside_mac_key;
+const beside_mac_key *beside_key(void);
+bool beside_message(const beside_mac_key *key, uint8_t form, uint8_t prna, uint8_t prnd, uint16_t week, uint32_t time, uint8_t status,
+                    uint8_t counter, const uint8_t *data);
+size_t beside_noted(uint8_t *out); /* room for NOTED bytes */
 
-enum { WEEK = 1177, CALLS = 8, MOST = DAWNSTOOK_ROOM_SIZE(16, 36) };
+enum { WEEK = 1177, CALLS = 8, NOTED = 128, MOST = DAWNSTOOK_ROOM_SIZE(16, 36) };
 static const uint8_t types[15] = {2, 4, 6, 10, 0, 0, 0, 0, 1, 3, 5, 0, 0, 0, 0};
 static uint8_t room[MOST], others[MOST];
 static size_t size;
 static uint8_t d, n;
 static store *rust;
+static const beside_mac_key *key;
 static uint32_t now = 30000;
 
 static void dump(const char *side, const char *part, int calls) {
@@ -144,6 +150,49 @@ static void read_timing(void) {
         NEED(timing.number == 0);
     }
 }
+/* Messages, whose cost hangs on no store. Those of the Rust are what it gives to the MAC, and are kept for the port's. */
+static uint8_t form, message[DAWNSTOOK_CED_MESSAGE_BYTES], data[DAWNSTOOK_CED_BYTES], noted[CALLS][NOTED];
+static size_t noted_bytes[CALLS];
+static size_t data_bytes(void) { return form == DAWNSTOOK_FORM_TIMING ? DAWNSTOOK_TIMING_BYTES : DAWNSTOOK_CED_BYTES; }
+static dawnstook_message_built build(int i, bool counted) {
+    dawnstook_message_built got;
+    size_t bytes = data_bytes();
+    uint8_t prna = some(i), prnd = some(CALLS - 1 - i);
+    uint32_t counter = (uint32_t)(i + 1);
+    if (counted) COUNT(got = dawnstook_build_message(message, sizeof message, data, bytes, prna, prnd, WEEK, 30000, form, 2, counter));
+    else got = dawnstook_build_message(message, sizeof message, data, bytes, prna, prnd, WEEK, 30000, form, 2, counter);
+    NEED(got.number == 0);
+    return got;
+}
+static void rust_build(int i) {
+    bool valid;
+    uint8_t prna = some(i), prnd = some(CALLS - 1 - i), counter = (uint8_t)(i + 1);
+    COUNT(valid = beside_message(key, form, prna, prnd, WEEK, 30000, 2, counter, data));
+    NEED(valid);
+    noted_bytes[i] = beside_noted(noted[i]);
+}
+static void built(void) {
+    for (size_t i = 0; i < sizeof data; i++) data[i] = (uint8_t)(i * 37 + form);
+    for (int i = 0; i < CALLS; i++) {
+        if (rust_side) { rust_build(i); continue; }
+        size_t bytes = build(i, true).bytes;
+        NEED(bytes == noted_bytes[i] && memcmp(message, noted[i], bytes) == 0);
+    }
+}
+static void read_back(void) {
+    dawnstook_message_read got;
+    if (rust_side) return;
+    for (int i = 0; i < CALLS; i++) {
+        size_t bytes = build(i, false).bytes;
+        COUNT(got = dawnstook_read_message(data, sizeof data, message, bytes, form));
+        NEED(got.number == 0 && got.counter == (uint32_t)(i + 1));
+    }
+}
+static void messages(void) {
+    static const char *const parts[3][2] = {
+        {"CED message", "CED message, read back"}, {"tag 0 message", "tag 0 message, read back"}, {"timing message", "timing message, read back"}};
+    for (form = 0; form < 3; form++) part(parts[form][0], built, CALLS), part(parts[form][1], read_back, CALLS);
+}
 static void test(void) {
     uint8_t w[16] = {0}, number = 0;
     if (rust_side) return;
@@ -184,6 +233,8 @@ static void on_ask(void) { dawnstook_get_ced_and_status(room, size, 1); dawnstoo
 static uint8_t read_number;
 static void on_orbit(void) { read_number = dawnstook_get_orbit(room, size, 1).number; }
 static void on_timing_numbers(void) { read_number = dawnstook_get_timing_numbers(room, size, 1).number; }
+static void on_build(void) { read_number = dawnstook_build_message(message, sizeof message, data, sizeof data, 2, 1, WEEK, 30000, 0, 2, 3).number; }
+static void on_read_back(void) { read_number = dawnstook_read_message(data, sizeof data, message, sizeof message, form).number; }
 static void on_reset(void) { dawnstook_reset_authbits(room, size); }
 static size_t needed(void (*body)(void)) {
     size_t i = 0;
@@ -214,6 +265,10 @@ static void stacks(void) {
     NEED(read_number == 0);
     printf(", read timing numbers %zu", needed(on_timing_numbers) - none);
     NEED(read_number == 0);
+    printf(", build message %zu", needed(on_build) - none);
+    NEED(read_number == 0);
+    printf(", read message %zu", needed(on_read_back) - none);
+    NEED(read_number == 0);
     printf(", reset %zu\n", needed(on_reset) - none);
 }
 
@@ -221,6 +276,7 @@ int main(int argc, char **argv) {
     NEED(argc >= 3);
     d = (uint8_t)atoi(argv[1]), n = (uint8_t)atoi(argv[2]);
     size = dawnstook_room_size(d, n);
+    key = beside_key();
     fresh();
     if (argc > 3) return stacks(), 0;
     part("nothing", nothing, CALLS);
@@ -236,6 +292,7 @@ int main(int argc, char **argv) {
     part("read timing numbers", read_timing, CALLS);
     part("word, new subframe", new_subframe, CALLS);
     part("the room's test", test, CALLS);
+    messages();
     if (n + CALLS <= 36) {
         part("word, satellite replaced", replaced, CALLS);
         fresh();

@@ -8,12 +8,22 @@ folder, sizes = sys.argv[1], sys.argv[2:]
 
 
 def counts(size):
+    """Each part's instructions and calls; what switching the count on and off costs by itself is taken off."""
     found = {}
     for line in open("%s/%s/counts" % (folder, size.replace(" ", "-"))):
         label, instructions = line.rstrip("\n").split("\t")
         side, part, calls = label.split("/")
         found[part, side] = (int(instructions), int(calls))
-    return found
+    inside = {side: found["nothing", side][0] / found["nothing", side][1] for side in ("port", "rust")}
+    return {name: (instructions - calls * inside[name[1]], calls) for name, (instructions, calls) in found.items()}
+
+
+def total(part, side):
+    return got[part, side][0]
+
+
+def each(part, side):
+    return total(part, side) / got[part, side][1]
 
 
 CALLS = [
@@ -24,6 +34,8 @@ CALLS = [
 # the port's own calls, and the asking whose data each reads
 READINGS = {"read orbit": "ask CED", "read timing numbers": "ask timing"}
 YARD = ["yard, words", "yard, tags", "yard, askings"]
+# these cost the same at every size
+MESSAGES = ["CED message", "tag 0 message", "timing message"]
 
 
 def line(name, port, rust):
@@ -33,15 +45,6 @@ def line(name, port, rust):
 for size in sizes:
     got = counts(size)
     d, n = map(int, size.split())
-    # what switching the count on and off costs by itself
-    inside = {side: got["nothing", side][0] / got["nothing", side][1] for side in ("port", "rust")}
-
-    def total(part, side):
-        return got[part, side][0] - got[part, side][1] * inside[side]
-
-    def each(part, side):
-        return total(part, side) / got[part, side][1]
-
     print("\nD %d, N %d (%d records)\n\n| Call | port | Rust | ratio |\n|---|---:|---:|---:|" % (d, n, 2 * d * n))
     for part in CALLS:
         if (part, "port") not in got:
@@ -63,3 +66,11 @@ for size in sizes:
     line("of it all else", whole["port"] - calls * test, whole["rust"])
     more = total("yard, tags with candidates", "port") - total("yard, tags", "port")
     line("yard's subframe, with a candidate shown for each tag", whole["port"] + more, whole["rust"])
+
+got = counts(sizes[0])
+print("\nMessages\n\n| Message | port | Rust | ratio |\n|---|---:|---:|---:|")
+for part in MESSAGES:
+    line(part, each(part, "port"), each(part, "rust"))
+for part in MESSAGES:
+    back = each(part + ", read back", "port")
+    print("| %s, read back | %.0f | none | %.2f of building |" % (part, back, back / each(part, "port")))

@@ -9,6 +9,7 @@ pub mod ecdsa {
 
 mod bitfields;
 mod gst;
+mod message;
 mod navmessage;
 mod state;
 mod storage;
