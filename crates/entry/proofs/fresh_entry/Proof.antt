@@ -6,7 +6,7 @@ use borrow.Author.Tests.{le-leb, lt-leb, not-true, not-false}
 use lib.ListN.{length}
 use Rattle.paper.specs.Room.{roomSize}
 use Rattle.paper.specs.Answer.{freshNumber}
-use Rattle.entry.proofs.Order.{stop, pass}
+use Rattle.paper.proofs.Order.{stop, pass}
 use borrow.Author.Needs.{needs}
 use Rattle.entry.proofs.fresh_entry.Statement.{statement}
 use Rattle.entry.proofs.fresh_entry.Tie as tie

@@ -5,7 +5,7 @@ use mathlib.Core.List.{[]}
 use borrow.Author.Tests.{lt-ltb, le-ltb, le-leb, lt-leb, eq-eqb, ne-eqb, not-true, not-false}
 use Rattle.paper.specs.Satellite.{isSatellite}
 use Rattle.paper.specs.Store.{isStore}
-use Rattle.entry.proofs.Order.{stop, pass}
+use Rattle.paper.proofs.Order.{stop, pass}
 use Rattle.entry.specs.Mack.{mackNumber}
 use Rattle.entry.proofs.mack_entry.Statement.{statement}
 use Rattle.entry.proofs.mack_entry.Tie as tie

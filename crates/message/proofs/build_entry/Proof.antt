@@ -2,7 +2,7 @@
 use mathlib.Core.Path.{sym, _∙_}
 use mathlib.Core.List.{[]}
 use borrow.Author.Tests.{lt-ltb, le-ltb, le-leb, lt-leb, eq-eqb, ne-eqb, not-true, not-false}
-use Rattle.entry.proofs.Order.{stop, pass}
+use Rattle.paper.proofs.Order.{stop, pass}
 use Rattle.paper.specs.Message.{buildNumber}
 use borrow.Author.Needs.{needs}
 use Rattle.message.proofs.build_entry.Statement.{statement}

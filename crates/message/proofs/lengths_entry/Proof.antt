@@ -2,7 +2,7 @@
 use mathlib.Core.Path.{_≡_, _∙_}
 use mathlib.Core.List.{[]}
 use borrow.Author.Tests.{le-leb, lt-leb, eq-eqb, ne-eqb}
-use Rattle.entry.proofs.Order.{stop, pass}
+use Rattle.paper.proofs.Order.{stop, pass}
 use mathlib.Core.Bool.{true, false}
 use Rattle.message.specs.Outcome.{wellLong, lengthsNumber}
 use borrow.Author.Needs.{needs}
