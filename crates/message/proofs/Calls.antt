@@ -16,7 +16,7 @@ use Rattle.paper.specs.Record.{recordBits, dataBytes, sameBits}
 use Rattle.paper.specs.Field.{bitsAt}
 use Rattle.paper.specs.Tag.{statusKnown}
 use Rattle.paper.specs.Message.{Head, isTagZero, formKnown, formFamily, prndWidth, headWidth, messageBytes, message, satellitesRead, headValues}
-use Rattle.paper.specs.Message.{mostWeek, counterAllowed, readHead, readData, paddingOf, buildNumber, buildAnswer, buildBuffer, readNumber, readAnswer, readBuffer, bitsFrom}
+use Rattle.paper.specs.Message.{carried, clean, mostWeek, counterAllowed, readHead, readData, paddingOf, buildNumber, buildAnswer, buildBuffer, readNumber, readAnswer, readBuffer, bitsFrom}
 use Rattle.paper.proofs.Order.{unless-zero}
 use Rattle.paper.proofs.StoreFacts.{both-true, true-both}
 use Rattle.paper.proofs.Fields.{bits-small}
@@ -24,7 +24,7 @@ use Rattle.packing.proofs.Rows.{bytes-length}
 use Rattle.message.specs.Outcome.{lengthsNumber, fieldsNumber}
 use Rattle.message.proofs.Passed.{Allowed, build-passed, satellite-fits, allowed-fits}
 use Rattle.message.proofs.Reading.{read-zero, zero-read, lengths-passed}
-use Rattle.message.proofs.Trips.{carried, clean, message-length, head-back, data-back, padding-back, one-message, rebuilt}
+use Rattle.message.proofs.Trips.{message-length, head-back, data-back, padding-back, one-message, rebuilt}
 
 -- ---- what was built is read back
 module _ (form : ℕ) (h : Head) (d buffer lent : List ℕ) (zero : buildNumber form h d buffer ≡ 0) (room : dataBytes (formFamily form) ≤ length lent) where

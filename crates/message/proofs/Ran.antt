@@ -14,7 +14,7 @@ use Rattle.paper.specs.Parts.{Bytes, onPart}
 use Rattle.paper.specs.Record.{dataBytes, recordBits, sameBits}
 use Rattle.paper.specs.Satellite.{isSatellite}
 use Rattle.paper.specs.Message.{Head, formFamily, headWidth, messageBytes, message, headValues, buildNumber, buildAnswer, buildBuffer}
-use Rattle.paper.specs.Message.{bitsFrom, readHead, readData, readNumber, readAnswer, readBuffer}
+use Rattle.paper.specs.Message.{carried, clean, bitsFrom, readHead, readData, readNumber, readAnswer, readBuffer}
 use Rattle.paper.proofs.Parts.{onPart-part}
 use Rattle.packing.proofs.Rows.{bytes-length}
 use Rattle.refusals.proofs.Answers.{done-number, done-room}
@@ -24,7 +24,7 @@ use Rattle.message.specs.declared.ReadBack.the-variants.{Message as read
 use Rattle.message.specs.Outcome.{headOf, builtAnswer, readBackAnswer}
 use Rattle.message.proofs.Passed.{build-passed}
 use Rattle.message.proofs.Reading.{lengths-passed, zero-read}
-use Rattle.message.proofs.Trips.{carried, clean, message-length}
+use Rattle.message.proofs.Trips.{message-length}
 use Rattle.message.proofs.Calls.{built-reads, two-messages, read-builds}
 use Rattle.message.proofs.OneToOne.{built-one}
 use Rattle.message.proofs.build.Reads as build

@@ -13,7 +13,7 @@ use Rattle.paper.specs.Bits.{bitAt}
 use Rattle.paper.specs.Record.{recordBits, dataBytes, sameBits}
 use Rattle.paper.specs.Field.{pick, bitsAt}
 use Rattle.paper.specs.Message.{Head, isTagZero, formFamily, afterPrnd, headFields, prndWidth, headWidth, digitsOf, fieldBits, bitsFrom, inBytes}
-use Rattle.paper.specs.Message.{messageBits, messageBytes, message, readHead, readData, paddingOf}
+use Rattle.paper.specs.Message.{messageBits, messageBytes, message, readHead, readData, paddingOf, carried, clean}
 use Rattle.packing.proofs.Rows.{AllBits, digits-length, digits-bits, from-length, from-at, from-bits, append-bits, append-first, append-then, past-end, bytes-length, bytes-bytes, bytes-bit, spelled}
 use Rattle.packing.proofs.Behind.{from-same, from-join, digits-read, read-digits, from-bytes}
 use Rattle.message.specs.Heads.{joined, headNumber, headFrom}
@@ -68,22 +68,6 @@ padding-zero : (form : ℕ) (m : List ℕ) → bitAt m (headWidth form + recordB
 padding-zero form m e = padding-is form m ∙ e
 
 -- ---- what was built reads back
--- the fields that a form carries
-abbrev pub carried : ℕ → Head → Head
-carried form h =
-    record {
-      prnd = cond (isTagZero form) 0 (h .prnd);
-      prna = h .prna;
-      week = h .week;
-      time = h .time;
-      counter = h .counter;
-      status = h .status;
-    }
-
--- the data with zeros past its width
-abbrev pub clean : ℕ → List ℕ → List ℕ
-clean form d = inBytes (dataBytes (formFamily form)) (bitsFrom d 0 (recordBits (formFamily form)))
-
 -- the fields of a number that fields were joined to
 number-fields : (p a w t c s : ℕ) → p < 2 ^ 8 → a < 2 ^ 8 → w < 2 ^ 12 → t < 2 ^ 20 → c < 2 ^ 8 → s < 2 ^ 2
     → headFrom (((((p * 256 + a) * 4096 + w) * 1048576 + t) * 256 + c) * 4 + s)

@@ -32,10 +32,21 @@ pub const TAG0_FORM: u8 = 1;
 
 pub const TIMING_FORM: u8 = 2;
 
-// The whole bytes of the fields in front of the data, behind which two bits more stand: without, and with the data's satellite.
-const SHORT_HEAD: usize = 6;
+// STORE 21.2: the bits of the fields in front of the data
+const PRN_BITS: usize = 8;
 
-const LONG_HEAD: usize = 1 + SHORT_HEAD;
+const WEEK_BITS: usize = 12;
+
+const TIME_BITS: usize = 20;
+
+const COUNTER_BITS: usize = 8;
+
+const STATUS_BITS: usize = 2;
+
+// Their whole bytes, behind which the status stands: without the data's satellite, and with it.
+const SHORT_HEAD: usize = (PRN_BITS + WEEK_BITS + TIME_BITS + COUNTER_BITS) / 8;
+
+const LONG_HEAD: usize = PRN_BITS / 8 + SHORT_HEAD;
 
 // The bytes of a message.
 pub const CED_MESSAGE: usize = LONG_HEAD + Ced::BYTES;
@@ -49,14 +60,16 @@ pub const MOST_WEEK: u16 = 4095;
 
 pub const MOST_COUNTER: u32 = 255;
 
-// STORE 21.2: how many numbers a field of 8, 12, 20 and 2 bits has
-const BYTES: u64 = 256;
+// how many numbers such a field has
+const PRNS: u64 = 1 << PRN_BITS;
 
-const WEEKS: u64 = 4096;
+const WEEKS: u64 = 1 << WEEK_BITS;
 
-const TIMES: u64 = 1048576;
+const TIMES: u64 = 1 << TIME_BITS;
 
-const STATUSES: u64 = 4;
+const COUNTERS: u64 = 1 << COUNTER_BITS;
+
+const STATUSES: u64 = 1 << STATUS_BITS;
 
 // STORE 14.1: the number that only reading back answers
 pub const PADDING_SET: u8 = 26;
@@ -192,9 +205,9 @@ fn head_number(form: u8, h: Heading) -> u64
     let time = h.gst.tow.0;
     let counter = h.counter;
     let status = h.status;
-    let satellites = (prnd as u64) * BYTES + (prna as u64);
+    let satellites = (prnd as u64) * PRNS + (prna as u64);
     let moment = (satellites * WEEKS + (week as u64)) * TIMES + (time as u64);
-    (moment * BYTES + (counter as u64)) * STATUSES + (status as u64)
+    (moment * COUNTERS + (counter as u64)) * STATUSES + (status as u64)
 }
 
 // The message at the start of the lent buffer.
@@ -218,17 +231,17 @@ fn heading_of(head: u64) -> Heading
     ensures { λ r. ⌜ headOf r ≡ headFrom head ⌝ }
 {
     let counted = head / STATUSES;
-    let moment = counted / BYTES;
+    let moment = counted / COUNTERS;
     let week = moment / TIMES;
     let satellites = week / WEEKS;
     Heading {
-        prnd: Svn((satellites / BYTES) as u8),
-        prna: Svn((satellites % BYTES) as u8),
+        prnd: Svn((satellites / PRNS) as u8),
+        prna: Svn((satellites % PRNS) as u8),
         gst: Gst {
             wn: Wn((week % WEEKS) as u16),
             tow: Tow((moment % TIMES) as u32),
         },
-        counter: (counted % BYTES) as u32,
+        counter: (counted % COUNTERS) as u32,
         status: (head % STATUSES) as u8,
     }
 }

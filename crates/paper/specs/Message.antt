@@ -34,20 +34,37 @@ pub record Head : Type 0 where
   pub counter : ℕ
   pub status : ℕ
 
--- STORE 21.2: the fields in their order, each with its bits and its number
+-- STORE 21.2: how many bits each of them has
+abbrev pub prnWidth : ℕ
+prnWidth = 8
+
+abbrev pub weekWidth : ℕ
+weekWidth = 12
+
+abbrev pub timeWidth : ℕ
+timeWidth = 20
+
+abbrev pub counterWidth : ℕ
+counterWidth = 8
+
+abbrev pub statusWidth : ℕ
+statusWidth = 2
+
+-- the fields in their order, each with its bits and its number
 abbrev pub afterPrnd : Head → List (ℕ × ℕ)
-afterPrnd h = (8, h .prna) ∷ (12, h .week) ∷ (20, h .time) ∷ (8, h .counter) ∷ (2, h .status) ∷ []
+afterPrnd h =
+    (prnWidth, h .prna) ∷ (weekWidth, h .week) ∷ (timeWidth, h .time) ∷ (counterWidth, h .counter) ∷ (statusWidth, h .status) ∷ []
 
 -- tag 0 has no PRN of the data's satellite
 abbrev pub headFields : ℕ → Head → List (ℕ × ℕ)
-headFields form h = pick (isTagZero form) (afterPrnd h) ((8, h .prnd) ∷ afterPrnd h)
+headFields form h = pick (isTagZero form) (afterPrnd h) ((prnWidth, h .prnd) ∷ afterPrnd h)
 
--- how many bits that field has, and all of them together
+-- how many bits that PRN has in a form, and all the fields together
 abbrev pub prndWidth : ℕ → ℕ
-prndWidth form = cond (isTagZero form) 0 8
+prndWidth form = cond (isTagZero form) 0 prnWidth
 
 abbrev pub headWidth : ℕ → ℕ
-headWidth form = prndWidth form + (8 + 12 + 20 + 8 + 2)
+headWidth form = prndWidth form + (prnWidth + weekWidth + timeWidth + counterWidth + statusWidth)
 
 -- the w digits of a number in base 2, the top one first
 unfoldable pub digitsOf : ℕ → ℕ → List ℕ
@@ -125,11 +142,11 @@ readHead form m =
     let o = prndWidth form in
     record {
       prnd = bitsAt m 0 o;
-      prna = bitsAt m o 8;
-      week = bitsAt m (o + 8) 12;
-      time = bitsAt m (o + 20) 20;
-      counter = bitsAt m (o + 40) 8;
-      status = bitsAt m (o + 48) 2;
+      prna = bitsAt m o prnWidth;
+      week = bitsAt m (o + prnWidth) weekWidth;
+      time = bitsAt m (o + (prnWidth + weekWidth)) timeWidth;
+      counter = bitsAt m (o + (prnWidth + weekWidth + timeWidth)) counterWidth;
+      status = bitsAt m (o + (prnWidth + weekWidth + timeWidth + counterWidth)) statusWidth;
     }
 
 -- the data read back, with zeros past its width
@@ -168,3 +185,19 @@ readAnswer form m buffer = answer (readNumber form m buffer) (headValues (readHe
 unfoldable pub readBuffer : ℕ → List ℕ → List ℕ → List ℕ
 readBuffer form m buffer =
     roomFor (readNumber form m buffer) (onPart (λ (_ : List ℕ). readData form m) 0 (dataBytes (formFamily form)) buffer) buffer
+
+-- STORE 21.5: of a head what a form carries
+abbrev pub carried : ℕ → Head → Head
+carried form h =
+    record {
+      prnd = cond (isTagZero form) 0 (h .prnd);
+      prna = h .prna;
+      week = h .week;
+      time = h .time;
+      counter = h .counter;
+      status = h .status;
+    }
+
+-- and of its data the 549 or 141 bits, with zeros past them
+abbrev pub clean : ℕ → List ℕ → List ℕ
+clean form bytes = inBytes (dataBytes (formFamily form)) (bitsFrom bytes 0 (recordBits (formFamily form)))
