@@ -14,8 +14,9 @@
 //! unknown kind and inside a record.
 //!
 //! The bytes are what the Rust's `validate_tag` and `validate_tag0` give to the MAC. A tag 0 whose counter is not 1, which the Rust
-//! does not have, goes to `update_mac_with_navdata`, which both of them call. 4, 5 and 6 come from `Svn::try_from`, `Gst::new` and
-//! `is_subframe`. The Rust has no word for 9, 7 and 8: they are tested here, in this order and behind the others.
+//! does not have, goes to `update_mac_with_navdata`, which both of them call. A dummy tag has no data, and its message is that of data
+//! of zeros: this is required of the Rust's `validate_tag_dummy` and `validate_tag0_dummy`. 4, 5 and 6 come from `Svn::try_from`,
+//! `Gst::new` and `is_subframe`. The Rust has no word for 9, 7 and 8: they are tested here, in this order and behind the others.
 
 use messages::bitfields::NmaStatus;
 use messages::tesla::{Key, MacFunction};
@@ -136,6 +137,15 @@ impl<'a> Build<'a> {
         let message = of_mac(MacFunction::HmacSha256);
         assert!(message == of_mac(MacFunction::CmacAes));
         assert!(message.len() == bytes);
+
+        let key = Key::of_zeros(MacFunction::HmacSha256);
+        let dummy = match (self.form, counter) {
+            (TAG_0, 1) => Some(key.validate_tag0_dummy(tag, gst, sender, status, bits)),
+            (TAG_0, _) => None,
+            _ => Some(key.validate_tag_dummy(tag, gst, satellite.into(), sender, counter, status, bits)),
+        };
+        let of_dummy = noted();
+        assert!(dummy.is_none() || navdata.any() || of_dummy == message);
         lent[..bytes].copy_from_slice(&message);
         Ok(lent)
     }
