@@ -1,7 +1,7 @@
 -- What the answers of `answering` say of the paper's record that answers, and what is told of it. Assumes nothing.
 use native.Mathlib.Omega.{arith}
 use mathlib.Core.Path.{_≡_, refl, sym, ap, _∙_}
-use mathlib.Core.Bool.{Bool, true, false}
+use mathlib.Core.Bool.{Bool, true, false, _&&_}
 use mathlib.Core.List.{List, [], _∷_}
 use Prim.Native.Nat.{ℕ, _+_, _≤_, _<_}
 use borrow.Author.Tests.{lt-ltb, ltb-true}
@@ -10,9 +10,9 @@ use lib.ListN.{length}
 use Rattle.paper.specs.Number.{Answer, done, refused, number}
 use Rattle.paper.specs.Parts.{part}
 use Rattle.paper.specs.Big.{be16}
-use Rattle.paper.specs.Record.{Family, countAt, size, count}
-use Rattle.paper.specs.Room.{headSize, rowSize, depth, slots, current, rowAt}
-use Rattle.paper.specs.Ask.{stepsBack, answeringRow, answeringRecord, someEnough, timeBefore}
+use Rattle.paper.specs.Record.{Family, countAt, size, count, agesOf, oldest, least}
+use Rattle.paper.specs.Room.{headSize, rowSize, depth, slots, current, byTime, rowAt}
+use Rattle.paper.specs.Ask.{stepsBack, answeringRow, answeringRecord, someEnough, ageUnknown, timeBefore}
 use Rattle.paper.proofs.Big.{be16-part}
 use Rattle.paper.proofs.First.{first-holds}
 use Rattle.paper.proofs.Views.{row-inside}
@@ -100,19 +100,33 @@ module _ (f : Family) (sat : ℕ) (room : List ℕ) where
         rw (shown .1 .1) (place-inside f (rowAnswering f sat room) (slotAnswering f sat room) room slot-lt F row-lt),
       )
 
-    -- the time refused, and told
+    -- whether its age is known is the paper's test
+    told-unknown : (b : Bool) → b ≡ (byTime room && eqb (least (agesOf f (part at (size f) room))) oldest) → b ≡ ageUnknown f sat room
+    unfolding ageUnknown
+    told-unknown b eb = eb ∙ rw told-record
+
+    -- the age not known; the time refused, and told
     module _ (store : isStore room ≡ true) (known : isSatellite sat ≡ true) where
-      pub ask-late : (t : Answer) → t ≡ timeBefore f (part row headSize room) (part at (size f) room) → eqb (number t) 0 ≡ false
+      pub ask-unknown : true ≡ (byTime room && eqb (least (agesOf f (part at (size f) room))) oldest)
+          → (refused 24 ≡ askAnswer f sat room) × (0 ≡ askPlace f sat room)
+      unfolding askAnswer askPlace askNumber
+      ask-unknown eu =
+          let unknown = sym (told-unknown true eu) in
+          (rw (store, known, shown .0, unknown), rw (store, known, shown .0, unknown))
+
+      pub ask-late : false ≡ (byTime room && eqb (least (agesOf f (part at (size f) room))) oldest) → (t : Answer) → t ≡ timeBefore f (part row headSize room) (part at (size f) room) → eqb (number t) 0 ≡ false
           → (refused 7 ≡ askAnswer f sat room) × (0 ≡ askPlace f sat room)
       unfolding askAnswer askPlace askNumber
-      ask-late t et k =
+      ask-late eu t et k =
+          let unknown = sym (told-unknown false eu) in
           let late : eqb (number (timeBefore f (answeringRow f sat room) (answeringRecord f sat room))) 0 ≡ false =
           ap (λ (x : Answer). eqb (number x) 0) (sym (et ∙ told-time)) ∙ k in
-          (rw (store, known, shown .0, late), rw (store, known, shown .0, late))
+          (rw (store, known, shown .0, unknown, late), rw (store, known, shown .0, unknown, late))
 
-      pub ask-told : (n w t : ℕ) → n ≡ be16 room (at + countAt) → done (w ∷ t ∷ []) ≡ timeBefore f (part row headSize room) (part at (size f) room)
+      pub ask-told : false ≡ (byTime room && eqb (least (agesOf f (part at (size f) room))) oldest) → (n w t : ℕ) → n ≡ be16 room (at + countAt) → done (w ∷ t ∷ []) ≡ timeBefore f (part row headSize room) (part at (size f) room)
           → (done (n ∷ w ∷ t ∷ []) ≡ askAnswer f sat room) × (at ≡ askPlace f sat room)
       unfolding askAnswer askPlace askNumber
-      ask-told n w t en et =
+      ask-told eu n w t en et =
+          let unknown = sym (told-unknown false eu) in
           let time = et ∙ told-time in
-          (rw (store, known, shown .0, ← time, en, told-count), rw (store, known, shown .0, ← time) (shown .1 .1))
+          (rw (store, known, shown .0, unknown, ← time, en, told-count), rw (store, known, shown .0, unknown, ← time) (shown .1 .1))

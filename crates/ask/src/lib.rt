@@ -1,13 +1,14 @@
 // Asking (STORE 12): from the current row backward around the ring, the satellite's first record with a count that is enough, and
 // the time of its row less 30 s for each of its least age. `ask` is the one path of every asking.
 ghost use mathlib.Core.Path.{_≡_};
+ghost use mathlib.Core.Bool.{_&&_};
 ghost use Prim.Native.Nat.{_+_, _≤_, _<_};
-ghost use lib.Dec.{ltb};
+ghost use lib.Dec.{ltb, eqb};
 ghost use lib.IntN.{pos, negℤ};
 ghost use lib.ListN.{length};
 ghost use Rattle.paper.specs.Parts.{part};
-ghost use Rattle.paper.specs.Record.{familyIf, agesAt, size, agesOf, least};
-ghost use Rattle.paper.specs.Room.{headSize, rowSize, depth};
+ghost use Rattle.paper.specs.Record.{familyIf, agesAt, size, agesOf, oldest, least};
+ghost use Rattle.paper.specs.Room.{headerSize, headSize, rowSize, depth, byTime};
 ghost use Rattle.paper.specs.Store.{InRange};
 ghost use Rattle.paper.specs.Ask.{hasEnough, enoughSlot, stepsBack, timeBefore};
 ghost use Rattle.paper.specs.Answer.{askAnswer};
@@ -25,6 +26,7 @@ use lookup::Found;
 use records::AGES_AT;
 use records::COUNT_AT;
 use records::Ced;
+use records::OLDEST;
 use records::SATELLITE_AT;
 use records::Timing;
 use refusals::Refusal;
@@ -143,6 +145,19 @@ fn least_age(room: &[u8], at: usize, timing: bool) -> u8
     Ced::least(Ced::ages(&room[at..e]))
 }
 
+// STORE 12.5: under rule 1, whether the age of the record that starts there is not known
+fn age_unknown(room: &[u8], at: usize, timing: bool) -> bool
+    requires { ⌜ (headerSize ≤ length (now room)) × (at + size (familyIf timing) ≤ length (now room)) ⌝ }
+    ensures { λ r. ⌜ r
+        ≡ (byTime (now (room .entry))
+        && eqb (least (agesOf (familyIf timing) (part at (size (familyIf timing)) (now (room .entry))))) oldest) ⌝ }
+{
+    if !rows::by_time(room) {
+        return false;
+    }
+    least_age(room, at, timing) == OLDEST
+}
+
 fn subframes_back(age: u8) -> i32
     ensures { λ r. ⌜ r ≡ negℤ (pos age) ⌝ }
 {
@@ -165,7 +180,7 @@ fn time_before(room: &[u8], row: usize, at: usize, timing: bool) -> NewTime
     subframe.add_subframes(back)
 }
 
-// STORE 14.2, asking: 3, 4, 12, 7
+// STORE 14.2, asking: 3, 4, 12, 24, 7
 pub fn ask(room: &[u8], timing: bool, svn: Svn) -> Answered
     ensures { λ r. ⌜ (answeredAnswer r ≡ askAnswer (familyIf timing) (svn .0) (now (room .entry)))
         × (placeAnswered r ≡ askPlace (familyIf timing) (svn .0) (now (room .entry))) ⌝ }
@@ -179,6 +194,9 @@ pub fn ask(room: &[u8], timing: bool, svn: Svn) -> Answered
     let Answering::At(row, at) = answering_at(room, timing, svn.0) else {
         return Answered::Refused(Refusal::NotEnough);
     };
+    if age_unknown(room, at, timing) {
+        return Answered::Refused(Refusal::AgeUnknown);
+    }
     let NewTime::Time(time) = time_before(room, row, at, timing) else {
         return Answered::Refused(Refusal::OutOfTime);
     };

@@ -15,7 +15,7 @@ use Rattle.paper.specs.Call.{partTo, roomAfter, run}
 use Rattle.text.specs.Text.{Put}
 use Rattle.text.proofs.Puts.{length-putText, take-put}
 use Rattle.lines.specs.declared.Kind.{Kind}
-use Rattle.lines.specs.declared.Kind.the-variants.{Word, Tag, Reset, Ced, Timing, Fresh, Unknown}
+use Rattle.lines.specs.declared.Kind.the-variants.{Word, Tag, Reset, Ced, Timing, Fresh, FreshRuled, Unknown}
 use Rattle.benchlines.specs.Records.{wordCall, tagCallOn, recordPart, recordRoom}
 
 -- the data of a record, if the number is 0
@@ -48,6 +48,7 @@ part-short Reset body room = omega arith
 part-short Ced body room = ask-short CED (getD body 0 0) room
 part-short Timing body room = ask-short TIMING (getD body 0 0) room
 part-short Fresh body room = omega arith
+part-short FreshRuled body room = omega arith
 part-short Unknown body room = omega arith
 
 -- a call that hands out a part leaves the room as it is
@@ -59,6 +60,7 @@ part-after Reset body room = refl
 part-after Ced body room = refl
 part-after Timing body room = refl
 part-after Fresh body room = refl
+part-after FreshRuled body room = refl
 part-after Unknown body room = refl
 
 -- bytes put to the start, and the first k bytes of k

@@ -12,7 +12,7 @@ use Rattle.paper.specs.Record.{CED, Timing as TIMING}
 use Rattle.paper.specs.Answer.{candidateData}
 use Rattle.paper.specs.Call.{Call, freshCall, feedCall, tagCall, askCall, resetCall, answerTo, partTo, run}
 use Rattle.lines.specs.declared.Kind.{Kind}
-use Rattle.lines.specs.declared.Kind.the-variants.{Word, Tag, Reset, Ced, Timing, Fresh, Unknown}
+use Rattle.lines.specs.declared.Kind.the-variants.{Word, Tag, Reset, Ced, Timing, Fresh, FreshRuled, Unknown}
 use Rattle.lines.specs.Lines.{lineOf}
 
 -- STORE 17.2, kind 1: satellite, band, week (2), time (4), the word
@@ -30,6 +30,10 @@ tagCallOn body room =
     (candidateOn body room)
     (not (eqb (getD body 5 0) 0))
 
+-- STORE 17.2, kind 9: D, N, rule
+abbrev pub ruledCall : List ℕ → Call
+ruledCall body = freshCall (getD body 0 0) (getD body 1 0) (getD body 2 0)
+
 -- what a record is on a room: a call, or a number without a call
 pub data Deed : Type 0 where
   calls : Call → Deed
@@ -39,14 +43,15 @@ pub data Deed : Type 0 where
 abbrev pub unknownKind : ℕ
 unknownKind = 13
 
--- STORE 17.2: a record of each kind
+-- STORE 17.2: a record of each kind; a fresh record that names no rule has rule 0
 abbrev pub deedOf : Kind → List ℕ → List ℕ → Deed
 deedOf Word body room = calls (wordCall body)
 deedOf Tag body room = calls (tagCallOn body room)
 deedOf Reset body room = calls resetCall
 deedOf Ced body room = calls (askCall CED (getD body 0 0))
 deedOf Timing body room = calls (askCall TIMING (getD body 0 0))
-deedOf Fresh body room = calls (freshCall (getD body 0 0) (getD body 1 0))
+deedOf Fresh body room = calls (freshCall (getD body 0 0) (getD body 1 0) 0)
+deedOf FreshRuled body room = calls (ruledCall body)
 deedOf Unknown body room = says unknownKind
 
 abbrev pub callsIn : Deed → List Call

@@ -22,8 +22,8 @@ ghost use Rattle.refusals.specs.Reply.{replyAnswer};
 ghost use Rattle.tags.specs.Candidates.{taggedAnswer};
 ghost use Rattle.navmessage.specs.Asked.{askedAnswer};
 ghost use Rattle.lines.specs.Lines.{outcomeAnswer, longestLine};
-ghost use Rattle.benchlines.specs.Records.{wordCall, candidateOn, tagCallOn, recordAnswer, recordPart, recordRoom, recordLine};
-ghost use Rattle.lines.specs.declared.Kind.the-variants.{Word, Tag, Fresh};
+ghost use Rattle.benchlines.specs.Records.{wordCall, ruledCall, candidateOn, tagCallOn, recordAnswer, recordPart, recordRoom, recordLine};
+ghost use Rattle.lines.specs.declared.Kind.the-variants.{Word, Tag, Fresh, FreshRuled};
 ghost use Rattle.lines.specs.Kinds.{bodyLength};
 ghost use Rattle.text.specs.Text.{Put};
 
@@ -142,13 +142,22 @@ fn reset(room: &mut [u8]) -> Outcome
     replied(navmessage::reset_authbits(room))
 }
 
-// D, N.
+// D, N: rule 0, whatever the room had.
 fn fresh(room: &mut [u8], body: &[u8]) -> Outcome
     requires { ⌜ length (now body) ≡ bodyLength Fresh ⌝ }
-    ensures { λ r. ⌜ (outcomeAnswer r ≡ answerTo (freshCall (getD (now (body .entry)) 0 0) (getD (now (body .entry)) 1 0)) (now (room .entry)))
-        × (now (room .exit) ≡ roomAfter (freshCall (getD (now (body .entry)) 0 0) (getD (now (body .entry)) 1 0)) (now (room .entry))) ⌝ }
+    ensures { λ r. ⌜ (outcomeAnswer r ≡ answerTo (freshCall (getD (now (body .entry)) 0 0) (getD (now (body .entry)) 1 0) 0) (now (room .entry)))
+        × (now (room .exit) ≡ roomAfter (freshCall (getD (now (body .entry)) 0 0) (getD (now (body .entry)) 1 0) 0) (now (room .entry))) ⌝ }
 {
-    replied(navmessage::fresh(room, body[0], body[1]))
+    replied(navmessage::fresh(room, body[0], body[1], 0))
+}
+
+// D, N, rule.
+fn fresh_ruled(room: &mut [u8], body: &[u8]) -> Outcome
+    requires { ⌜ length (now body) ≡ bodyLength FreshRuled ⌝ }
+    ensures { λ r. ⌜ (outcomeAnswer r ≡ answerTo (ruledCall (now (body .entry))) (now (room .entry)))
+        × (now (room .exit) ≡ roomAfter (ruledCall (now (body .entry))) (now (room .entry))) ⌝ }
+{
+    replied(navmessage::fresh(room, body[0], body[1], body[2]))
 }
 
 // The satellite that a record names: the first byte of its body.
@@ -174,6 +183,7 @@ pub fn outcome(room: &mut [u8], kind: Kind, body: &[u8]) -> Outcome
         Kind::Ced => asked(navmessage::get_ced_and_status(room, satellite(body))),
         Kind::Timing => asked(navmessage::get_timing_parameters(room, satellite(body))),
         Kind::Fresh => fresh(room, body),
+        Kind::FreshRuled => fresh_ruled(room, body),
         Kind::Unknown => Outcome::Refused(UNKNOWN_KIND),
     }
 }
@@ -190,6 +200,7 @@ pub fn part<'a>(room: &'a [u8], kind: Kind, body: &[u8]) -> &'a [u8]
         Kind::Ced => navmessage::ced_and_status_data(room, satellite(body)),
         Kind::Timing => navmessage::timing_parameters_data(room, satellite(body)),
         Kind::Fresh => &room[..0],
+        Kind::FreshRuled => &room[..0],
         Kind::Unknown => &room[..0],
     }
 }

@@ -41,7 +41,7 @@ sevens = replicate (roomSize 2 1 + 6) 7
 
 -- a fresh store of D rows and N slots on it
 unfoldable pub fresh : ℕ → ℕ → List ℕ
-fresh d n = roomAfter (freshCall d n) sevens
+fresh d n = roomAfter (freshCall d n 0) sevens
 
 abbrev row : List ℕ → List Call → Place → ℕ → ℕ → Row
 row start calls place counted sum = record { start = start; calls = calls; place = place; counted = counted; sum = sum }
@@ -144,8 +144,8 @@ breaks =
     ∷ row (fresh 2 1) (resetCall ∷ forty) (timing 0 0) 0 0
     ∷ row (fresh 2 1) (tag 4 1 20 T30 clock ∷ resetCall ∷ forty) (timing 0 0) 20 20
     -- a second fresh, of another D and N; one that is refused
-    ∷ row (fresh 2 1) (two 1 ++ (freshCall 1 2 ∷ forty)) (timing 0 1) 0 0
-    ∷ row (fresh 2 1) (freshCall 0 1 ∷ forty) (timing 0 0) 40 40
+    ∷ row (fresh 2 1) (two 1 ++ (freshCall 1 2 0 ∷ forty)) (timing 0 1) 0 0
+    ∷ row (fresh 2 1) (freshCall 0 1 0 ∷ forty) (timing 0 0) 40 40
     ∷ []
 
 -- a tag counts where satellite, family and bits are its own, and there alone
@@ -209,7 +209,7 @@ printed room (call ∷ rest) =
 
 -- a fresh store and the five words
 unfoldable pub begun : ℕ → List Call
-begun d = freshCall d 1 ∷ feed 1 1 0 T ∷ feed 1 2 0 T ∷ feed 1 3 0 T ∷ feed 1 4 0 T ∷ feed 1 5 170 T ∷ []
+begun d = freshCall d 1 0 ∷ feed 1 1 0 T ∷ feed 1 2 0 T ∷ feed 1 3 0 T ∷ feed 1 4 0 T ∷ feed 1 5 170 T ∷ []
 
 unfoldable pub tagsBefore : List Call
 tagsBefore =

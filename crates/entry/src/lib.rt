@@ -13,10 +13,10 @@ use refusals::Reply;
 use svn::Svn;
 
 // fresh: 1, 2
-pub fn fresh_entry(room: &[u8], d: u8, n: u8) -> Reply
-    ensures { λ r. ⌜ replyAnswer r ≡ freshAnswer d n (now (room .entry)) ⌝ }
+pub fn fresh_entry(room: &[u8], d: u8, n: u8, rule: u8) -> Reply
+    ensures { λ r. ⌜ replyAnswer r ≡ freshAnswer d n rule (now (room .entry)) ⌝ }
 {
-    if !limits::sizes_allowed(d, n) {
+    if !limits::fresh_allowed(d, n, rule) {
         return Reply::Refused(Refusal::Sizes);
     }
     let size = rows::room_size(numbers::as_usize(d), numbers::as_usize(n));
@@ -26,9 +26,9 @@ pub fn fresh_entry(room: &[u8], d: u8, n: u8) -> Reply
     Reply::Done
 }
 
-// word: 3, 4, 5, 8, 9
+// word: 3, 4, 5, 8, 9, 15
 pub fn feed_entry(room: &[u8], word: &[u8], svn: Svn, gst: Gst, band: u8) -> Reply
-    ensures { λ r. ⌜ replyAnswer r ≡ feedAnswer (now (word .entry)) (svn .0) (gst .tow .0) band (now (room .entry)) ⌝ }
+    ensures { λ r. ⌜ replyAnswer r ≡ feedAnswer (now (word .entry)) (svn .0) (gst .wn .0) (gst .tow .0) band (now (room .entry)) ⌝ }
 {
     if !store::is_store(room) {
         return Reply::Refused(Refusal::NotAStore);
@@ -45,6 +45,9 @@ pub fn feed_entry(room: &[u8], word: &[u8], svn: Svn, gst: Gst, band: u8) -> Rep
     }
     if band > 1 {
         return Reply::Refused(Refusal::Unknown);
+    }
+    if ageing::comes_earlier(room, gst) {
+        return Reply::Refused(Refusal::Earlier);
     }
     Reply::Done
 }

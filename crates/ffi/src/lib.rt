@@ -111,13 +111,13 @@ pub extern "C" fn dawnstook_room_size(d: u8, n: u8) -> usize
     rows::room_size(numbers::as_usize(d), numbers::as_usize(n))
 }
 
-// A fresh store of d rows and n slots at the start of the room.
+// A fresh store of d rows and n slots at the start of the room, under an ageing rule.
 #[no_mangle]
-pub extern "C" fn dawnstook_fresh(room: &mut [u8], d: u8, n: u8) -> u8
-    ensures { λ r. ⌜ (r ≡ number (freshAnswer d n (now (room .entry))))
-        × (now (room .exit) ≡ freshRoom d n (now (room .entry))) ⌝ }
+pub extern "C" fn dawnstook_fresh(room: &mut [u8], d: u8, n: u8, rule: u8) -> u8
+    ensures { λ r. ⌜ (r ≡ number (freshAnswer d n rule (now (room .entry))))
+        × (now (room .exit) ≡ freshRoom d n rule (now (room .entry))) ⌝ }
 {
-    reply_number(navmessage::fresh(room, d, n))
+    reply_number(navmessage::fresh(room, d, n, rule))
 }
 
 // A word of a satellite, received at a time on a band (0 E1B, 1 E5B).
@@ -130,7 +130,7 @@ pub extern "C" fn dawnstook_feed(
     time: u32,
     band: u8,
 ) -> u8
-    ensures { λ r. ⌜ (r ≡ number (feedAnswer (now (word .entry)) sat time band (now (room .entry))))
+    ensures { λ r. ⌜ (r ≡ number (feedAnswer (now (word .entry)) sat week time band (now (room .entry))))
         × (now (room .exit) ≡ feedRoom (now (word .entry)) sat week time band (now (room .entry))) ⌝ }
 {
     let gst = Gst {

@@ -11,7 +11,7 @@ use Rattle.paper.proofs.Lengths.{length-blank}
 use Rattle.paper.specs.Fresh.{header, blankSlot}
 use Rattle.paper.specs.Parts.{onPart}
 use Rattle.paper.specs.Record.{Family, CED, Timing, agesAt, size, ages, oldest, neverThere, blankRecord}
-use Rattle.paper.specs.Room.{depthAt, slotsAt, headerSize, slotSize}
+use Rattle.paper.specs.Room.{depthAt, slotsAt, ruleAt, headerSize, slotSize}
 
 -- the ages of a record of zeros made the oldest
 pub record-blank : (f : Family) (words k : ℕ) (z y : List ℕ) → k ≡ size f → words ≡ ages f → z ≡ replicate k 0
@@ -39,10 +39,11 @@ slot-blank slot c t l p q =
     let s : t ≡ blankRecord Timing = q (rw behind (length-part (size CED) (size Timing) slot (omega arith))) in
     rw (behind, take-at c (drop (size CED) slot) (size CED) n, e, p, s, append-nil)
 
--- D and N before the zeros
-pub header-put : (d n : ℕ) (room y : List ℕ) → headerSize ≤ length room → y ≡ replicate (length (take headerSize (drop 0 room))) 0
-    → set (set (take 0 room ++ (y ++ drop headerSize (drop 0 room))) depthAt d) slotsAt n ≡ onPart (λ _. header d n) 0 headerSize room
+-- D, N and the rule among the zeros
+pub header-put : (d n rule : ℕ) (room y : List ℕ) → headerSize ≤ length room → y ≡ replicate (length (take headerSize (drop 0 room))) 0
+    → set (set (set (take 0 room ++ (y ++ drop headerSize (drop 0 room))) depthAt d) slotsAt n) ruleAt rule
+    ≡ onPart (λ _. header d n rule) 0 headerSize room
 unfolding onPart
-header-put d n room y h p =
+header-put d n rule room y h p =
     let e : length (take headerSize (drop 0 room)) ≡ headerSize = length-part 0 headerSize room h in
     rw (p, e)

@@ -1,5 +1,5 @@
-// A fresh store (STORE 9.1): blank rows, and records with no satellite, no count, no data and the greatest ages. Whether D, N and the
-// room's length are allowed is tested before.
+// A fresh store (STORE 9.1): blank rows, and records with no satellite, no count, no data and the greatest ages. Whether D, N, the
+// rule and the room's length are allowed is tested before.
 ghost use mathlib.Core.Path.{_≡_};
 ghost use Prim.Native.Nat.{_+_, _≤_, _<_};
 ghost use lib.ListN.{length, replicate};
@@ -10,6 +10,7 @@ ghost use Rattle.paper.specs.Room.{headerSize, headSize, slotSize, rowSize, roo
 use layout::DEPTH_AT;
 use layout::HEADER;
 use layout::ROW_HEAD;
+use layout::RULE_AT;
 use layout::SLOT;
 use layout::SLOTS_AT;
 use layout::TIMING_AT;
@@ -84,20 +85,21 @@ fn blank_rows(room: &mut [u8], d: usize, n: usize)
     }
 }
 
-fn put_header(room: &mut [u8], d: u8, n: u8)
+fn put_header(room: &mut [u8], d: u8, n: u8, rule: u8)
     requires { ⌜ headerSize ≤ length (now room) ⌝ }
-    ensures { λ _. ⌜ now (room .exit) ≡ onPart (λ _. header d n) 0 headerSize (now (room .entry)) ⌝ }
+    ensures { λ _. ⌜ now (room .exit) ≡ onPart (λ _. header d n rule) 0 headerSize (now (room .entry)) ⌝ }
 {
     fill(&mut room[0..HEADER], 0);
     room[DEPTH_AT] = d;
     room[SLOTS_AT] = n;
+    room[RULE_AT] = rule;
 }
 
-// The room with a fresh store of D rows and N slots at its start; its bytes past the formula's length stay.
-pub fn fresh_room(room: &mut [u8], d: u8, n: u8)
+// The room with a fresh store of D rows and N slots under a rule at its start; its bytes past the formula's length stay.
+pub fn fresh_room(room: &mut [u8], d: u8, n: u8, rule: u8)
     requires { ⌜ roomSize d n ≤ length (now room) ⌝ }
-    ensures { λ _. ⌜ now (room .exit) ≡ fresh d n (now (room .entry)) ⌝ }
+    ensures { λ _. ⌜ now (room .exit) ≡ fresh d n rule (now (room .entry)) ⌝ }
 {
-    put_header(room, d, n);
+    put_header(room, d, n, rule);
     blank_rows(room, numbers::as_usize(d), numbers::as_usize(n));
 }

@@ -2,22 +2,14 @@
 use crate::SUBFRAME_SECONDS;
 use crate::WEEK_SECONDS;
 ghost use mathlib.Core.Path.{_≡_};
-ghost use mathlib.Core.Bool.{not};
 ghost use Prim.Native.Nat.{_*_, _≤_, _<_};
 ghost use lib.IntN.{pos, natAbs, _-ℤ_, _*ℤ_};
-ghost use lib.Signed.{nonNeg, quotZ};
+ghost use lib.Signed.{quotZ};
 ghost use Rattle.paper.specs.Time.{subframeSeconds, weekSubframes, mostSubframes, weekSeconds};
 
 const SUBFRAME: i32 = SUBFRAME_SECONDS as i32;
 
 const WEEK_SUBFRAMES: i32 = (WEEK_SECONDS / SUBFRAME_SECONDS) as i32;
-
-// Whether x is below 0.
-pub(crate) fn below_zero(x: i32) -> bool
-    ensures { λ r. ⌜ r ≡ not (nonNeg x) ⌝ }
-{
-    x < 0
-}
 
 // The seconds of so many subframes: as many as STORE 3.6 allows fit.
 pub(crate) fn in_seconds(subframes: i32) -> i32

@@ -18,7 +18,7 @@ use Rattle.paper.specs.Room.{depth, slots, current, rowOf, recordOf, depthAt, s
 use Rattle.paper.specs.Word.{fedRecord}
 use Rattle.paper.specs.Store.{InRange, isStore}
 use Rattle.paper.specs.Fresh.{fresh}
-use Rattle.paper.specs.Feed.{moves, chosen, fed}
+use Rattle.paper.specs.Feed.{moves, risesBy, chosen, fed}
 use Rattle.paper.specs.Tag.{familyOf, kindKnown, statusKnown, copAllowed, lengthAllowed, thirtyBefore, candidateRecord, hasCandidate, givenAgrees, matches, tagged, takenBy}
 use Rattle.paper.specs.Reset.{reset}
 use Rattle.paper.specs.Answer.{freshNumber, freshRoom, feedNumber, feedRoom, untilCandidate, tagNumber, tagAnswer, tagRoom, resetNumber, resetRoom}
@@ -36,16 +36,16 @@ use Rattle.history.specs.Line.{Place, Inside, at, succeeds, same}
 use Rattle.history.proofs.Records.{Kept, Alike, alike-kept, kept-from, fed-kept}
 
 -- ---- the room after a call: changed where the call succeeds, else as it was
-pub fresh-after : (d n : ℕ) (room : List ℕ)
-    → roomAfter (freshCall d n) room ≡ cond (succeeds (freshCall d n) room) (fresh d n room) room
+pub fresh-after : (d n rule : ℕ) (room : List ℕ)
+    → roomAfter (freshCall d n rule) room ≡ cond (succeeds (freshCall d n rule) room) (fresh d n rule room) room
 unfolding answerTo roomAfter freshRoom
-fresh-after d n room = rw (number-answer (freshNumber d n room) [])
+fresh-after d n rule room = rw (number-answer (freshNumber d n rule room) [])
 
 pub feed-after : (word : List ℕ) (sat w t band : ℕ) (room : List ℕ)
     → roomAfter (feedCall word sat w t band) room
     ≡ cond (succeeds (feedCall word sat w t band) room) (fed w (startOf t) sat band word room) room
 unfolding answerTo roomAfter feedRoom
-feed-after word sat w t band room = rw (number-answer (feedNumber word sat t band room) [])
+feed-after word sat w t band room = rw (number-answer (feedNumber word sat w t band room) [])
 
 pub tag-after : (sat kind cop l status w t : ℕ) (given : List ℕ) (verdict : Bool) (room : List ℕ)
     → roomAfter (tagCall sat kind cop l status w t given verdict) room
@@ -65,14 +65,14 @@ inside-same : (x y : List ℕ) (place : Place) → depth y ≡ depth x → slots
 inside-same x y place d n i = record { row = rw d at (i .row); slot = rw n at (i .slot) }
 
 -- ---- a fresh store
-pub fresh-none : (d n : ℕ) (room : List ℕ) → succeeds (freshCall d n) room ≡ true → (place : Place) → Inside (fresh d n room) place
-    → count (at (fresh d n room) place) ≡ 0
+pub fresh-none : (d n rule : ℕ) (room : List ℕ) → succeeds (freshCall d n rule) room ≡ true → (place : Place) → Inside (fresh d n rule room) place
+    → count (at (fresh d n rule room) place) ≡ 0
 unfolding answerTo
-fresh-none d n room e place i =
-    let fits = fresh-allowed d n room (sym (number-answer (freshNumber d n room) []) ∙ eqb-true _ 0 e) .1 in
-    let r : place .row < d = rw (fresh-depth d n room fits) at (i .row) in
-    let g : place .slot < n = rw (fresh-slots d n room fits) at (i .slot) in
-    ap count (fresh-record d n room fits (place .family) (place .row) r (place .slot) g) ∙ blank-count (place .family)
+fresh-none d n rule room e place i =
+    let fits = fresh-allowed d n rule room (sym (number-answer (freshNumber d n rule room) []) ∙ eqb-true _ 0 e) .1 in
+    let r : place .row < d = rw (fresh-depth d n rule room fits) at (i .row) in
+    let g : place .slot < n = rw (fresh-slots d n rule room fits) at (i .slot) in
+    ap count (fresh-record d n rule room fits (place .family) (place .row) r (place .slot) g) ∙ blank-count (place .family)
 
 -- ---- a word
 module _ (w t sat band : ℕ) (word room : List ℕ) (s : isStore room ≡ true) where
@@ -93,12 +93,12 @@ module _ (w t sat band : ℕ) (word room : List ℕ) (s : isStore room ≡ true)
     ready-alike : Alike f before ready
     ready-alike = rw (rowTaken-record w t room F f i g) (go (moves w t room))
       where
-        go : (b : Bool) → Alike f before (cond b (aged f 1 before) before)
+        go : (b : Bool) → Alike f before (cond b (aged f (risesBy w t room) before) before)
         go true =
             record {
-              satellites = aged-satellite f 1 before length-before;
-              counts = aged-count f 1 before length-before;
-              datas = aged-data f 1 before length-before;
+              satellites = aged-satellite f (risesBy w t room) before length-before;
+              counts = aged-count f (risesBy w t room) before length-before;
+              datas = aged-data f (risesBy w t room) before length-before;
             }
         go false = record { satellites = refl; counts = refl; datas = refl }
 

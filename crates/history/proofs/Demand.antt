@@ -15,20 +15,20 @@ use Rattle.history.proofs.Asked.{answering, answering-inside, answering
 
 pub demand-3 : Demand3
 unfolding run tags
-demand-3 room d n made [] place i = at-first d n room (eq-eqb (number (answerTo (freshCall d n) room)) 0 made) place i
-demand-3 room d n made (call ∷ before) place i =
-    let start : List ℕ = roomAfter (freshCall d n) room in
-    one-more (run start before) (run-stays d n room made before) (tags start before) (demand-3 room d n made before) call place i
+demand-3 room d n rule made [] place i = at-first d n rule room (eq-eqb (number (answerTo (freshCall d n rule) room)) 0 made) place i
+demand-3 room d n rule made (call ∷ before) place i =
+    let start : List ℕ = roomAfter (freshCall d n rule) room in
+    one-more (run start before) (run-stays d n rule room made before) (tags start before) (demand-3 room d n rule made before) call place i
 
 pub never-3 : Never3
-never-3 room d n made calls call = run-never-3 d n room made calls call
+never-3 room d n rule made calls call = run-never-3 d n rule room made calls call
 
 pub ask-earned : AskEarned
-ask-earned room d n made calls f sat e =
-    let start : List ℕ = roomAfter (freshCall d n) room in
+ask-earned room d n rule made calls f sat e =
+    let start : List ℕ = roomAfter (freshCall d n rule) room in
     let now : List ℕ = run start calls in
     let place : Place = answering f sat now e in
-    let earned = demand-3 room d n made calls place (answering-inside f sat now e) in
+    let earned = demand-3 room d n rule made calls place (answering-inside f sat now e) in
     record {
       place = place;
       counts = answering-count f sat now e ∙ earned .counts;

@@ -81,11 +81,11 @@ grown f x y new before false step unbroken e earned =
     }
 
 -- ---- the first record of a line: a fresh store's
-pub at-first : (d n : ℕ) (room : List ℕ) → succeeds (freshCall d n) room ≡ true → (place : Place) → Inside (roomAfter (freshCall d n) room) place
-    → Earned (place .family) (at (roomAfter (freshCall d n) room) place) []
-at-first d n room e place i =
-    rw (fresh-after d n room, e)
-    (no-count (place .family) (at (fresh d n room) place) (fresh-none d n room e place (rw (fresh-after d n room, e) at i)))
+pub at-first : (d n rule : ℕ) (room : List ℕ) → succeeds (freshCall d n rule) room ≡ true → (place : Place) → Inside (roomAfter (freshCall d n rule) room) place
+    → Earned (place .family) (at (roomAfter (freshCall d n rule) room) place) []
+at-first d n rule room e place i =
+    rw (fresh-after d n rule room, e)
+    (no-count (place .family) (at (fresh d n rule room) place) (fresh-none d n rule room e place (rw (fresh-after d n rule room, e) at i)))
 
 -- ---- an accepted tag on a line
 tag-step : (f : Family) (x y : List ℕ) (tag : Tag) (here : Bool) → Tagged f (tag .length) here x y → Step f x y (not (same f y x)) (cond here (tag ∷ []) [])
@@ -133,18 +133,18 @@ module _ (room : List ℕ) (s : isStore room ≡ true) (ts : Place → List Tag)
   unchanged : (f : Family) (rec : List ℕ) (before : List Tag) → Earned f rec before → Earned f rec (cond (not (same f rec rec)) [] before)
   unchanged f rec before e = rw (true-same f rec rec refl refl) e
 
-  more-fresh : (d n : ℕ) (place : Place) → Inside (roomAfter (freshCall d n) room) place → Next (freshCall d n) place
+  more-fresh : (d n rule : ℕ) (place : Place) → Inside (roomAfter (freshCall d n rule) room) place → Next (freshCall d n rule) place
   unfolding begins broken resets counted fills
-  more-fresh d n place i = rw (fresh-after d n room) (go (succeeds (freshCall d n) room) refl (rw (fresh-after d n room) at i))
+  more-fresh d n rule place i = rw (fresh-after d n rule room) (go (succeeds (freshCall d n rule) room) refl (rw (fresh-after d n rule room) at i))
     where
       before : List Tag
-      before = ts (past (freshCall d n) room place)
+      before = ts (past (freshCall d n rule) room place)
 
-      go : (b : Bool) → succeeds (freshCall d n) room ≡ b → Inside (cond b (fresh d n room) room) place
-          → Earned (place .family) (at (cond b (fresh d n room) room) place)
-          (cond (b || not (same (place .family) (at (cond b (fresh d n room) room) place) (at room place))) [] before)
-      go true e i = no-count (place .family) (at (fresh d n room) place) (fresh-none d n room e place i)
-      go false e i = unchanged (place .family) (at room place) before (earned-past (freshCall d n) place i)
+      go : (b : Bool) → succeeds (freshCall d n rule) room ≡ b → Inside (cond b (fresh d n rule room) room) place
+          → Earned (place .family) (at (cond b (fresh d n rule room) room) place)
+          (cond (b || not (same (place .family) (at (cond b (fresh d n rule room) room) place) (at room place))) [] before)
+      go true e i = no-count (place .family) (at (fresh d n rule room) place) (fresh-none d n rule room e place i)
+      go false e i = unchanged (place .family) (at room place) before (earned-past (freshCall d n rule) place i)
 
   module _ (word : List ℕ) (sat w t band : ℕ) (place : Place) where
     abbrev theFeed : Call
@@ -228,7 +228,7 @@ module _ (room : List ℕ) (s : isStore room ≡ true) (ts : Place → List Tag)
   -- whatever the call
   pub one-more : (call : Call) (place : Place) → Inside (roomAfter call room) place → Next call place
   unfolding begins broken resets counted fills roomAfter
-  one-more (freshCall d n) place i = more-fresh d n place i
+  one-more (freshCall d n rule) place i = more-fresh d n rule place i
   one-more (feedCall word sat w t band) place i = more-feed word sat w t band place i
   one-more (tagCall sat kind cop l status w t given verdict) place i = more-tag sat kind cop l status w t given verdict place i
   one-more (candidateCall sat kind cop w t) place i =

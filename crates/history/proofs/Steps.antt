@@ -8,13 +8,13 @@ use Rattle.paper.specs.Record.{Family}
 use Rattle.paper.specs.Answer.{freshAnswer, freshRoom, feedAnswer, feedRoom, tagAnswer, tagRoom, candidateAnswer, candidateData, askAnswer, askData, resetAnswer, resetRoom}
 use Rattle.paper.specs.Call.{freshCall, feedCall, tagCall, candidateCall, askCall, resetCall, answerTo, partTo, roomAfter}
 
-pub fresh-step : (d n : ℕ) (room : List ℕ)
-    → (answerTo (freshCall d n) room ≡ freshAnswer d n room) × (roomAfter (freshCall d n) room ≡ freshRoom d n room)
+pub fresh-step : (d n rule : ℕ) (room : List ℕ)
+    → (answerTo (freshCall d n rule) room ≡ freshAnswer d n rule room) × (roomAfter (freshCall d n rule) room ≡ freshRoom d n rule room)
 unfolding answerTo roomAfter
-fresh-step d n room = (refl, refl)
+fresh-step d n rule room = (refl, refl)
 
 pub feed-step : (word : List ℕ) (sat w t band : ℕ) (room : List ℕ)
-    → (answerTo (feedCall word sat w t band) room ≡ feedAnswer word sat t band room)
+    → (answerTo (feedCall word sat w t band) room ≡ feedAnswer word sat w t band room)
     × (roomAfter (feedCall word sat w t band) room ≡ feedRoom word sat w t band room)
 unfolding answerTo roomAfter
 feed-step word sat w t band room = (refl, refl)

@@ -34,13 +34,13 @@ pub record Earned (f : Family) (rec : List ℕ) (tags : List Tag) : Type 0 where
 abbrev pub Demand3 : Type 0
 Demand3 =
     -- from any room, of any length, on which a fresh call was answered 0
-    (room : List ℕ) (d n : ℕ)
-    → number (answerTo (freshCall d n) room) ≡ 0
+    (room : List ℕ) (d n rule : ℕ)
+    → number (answerTo (freshCall d n rule) room) ≡ 0
     -- after any calls, refused ones and further fresh ones among them: the latest first, with any arguments
     → (calls : List Call)
     -- at every place inside D and N of the room as it is then
     → (place : Place)
-    → let start = roomAfter (freshCall d n) room in
+    → let start = roomAfter (freshCall d n rule) room in
     let now = run start calls in
     Inside now place
     -- the record there has the count that the tags on its line since the last break earned, for what it holds now
@@ -49,11 +49,11 @@ Demand3 =
 abbrev pub Never3 : Type 0
 Never3 =
     -- after a successful fresh
-    (room : List ℕ) (d n : ℕ)
-    → number (answerTo (freshCall d n) room) ≡ 0
+    (room : List ℕ) (d n rule : ℕ)
+    → number (answerTo (freshCall d n rule) room) ≡ 0
     -- no call of the sequence is answered 3
     → (calls : List Call) (call : Call)
-    → number (answerTo call (run (roomAfter (freshCall d n) room) calls)) ≢ 3
+    → number (answerTo call (run (roomAfter (freshCall d n rule) room) calls)) ≢ 3
 
 -- what stands behind a count and data that asking hands out
 pub record Behind (start : List ℕ) (calls : List Call) (f : Family) (sat counted : ℕ) (bytes : List ℕ) : Type 0 where
@@ -68,10 +68,10 @@ pub record Behind (start : List ℕ) (calls : List Call) (f : Family) (sat count
 abbrev pub AskEarned : Type 0
 AskEarned =
     -- after a successful fresh, and after any calls
-    (room : List ℕ) (d n : ℕ)
-    → number (answerTo (freshCall d n) room) ≡ 0
+    (room : List ℕ) (d n rule : ℕ)
+    → number (answerTo (freshCall d n rule) room) ≡ 0
     → (calls : List Call) (f : Family) (sat : ℕ)
-    → let start = roomAfter (freshCall d n) room in
+    → let start = roomAfter (freshCall d n rule) room in
     let now = run start calls in
     -- where asking for a satellite is answered 0
     number (answerTo (askCall f sat) now) ≡ 0

@@ -32,7 +32,7 @@ succeeds call room = eqb (number (answerTo call room)) 0
 
 -- STORE 15.1: this call moved the ring and filled the row by its copy
 unfoldable pub fills : Call → List ℕ → ℕ → Bool
-fills (freshCall d n) room row = false
+fills (freshCall d n rule) room row = false
 fills (feedCall word sat w t band) room row =
     succeeds (feedCall word sat w t band) room
     && moves w (startOf t) room
@@ -53,7 +53,7 @@ past call room place =
 
 -- STORE 15.2: a reset that is answered 0
 unfoldable pub resets : Call → List ℕ → Bool
-resets (freshCall d n) room = false
+resets (freshCall d n rule) room = false
 resets (feedCall word sat w t band) room = false
 resets (tagCall sat kind cop l status w t given verdict) room = false
 resets (candidateCall sat kind cop w t) room = false
@@ -71,7 +71,7 @@ broken call room place =
 
 -- STORE 15.4: a new history
 unfoldable pub begins : Call → List ℕ → Bool
-begins (freshCall d n) room = succeeds (freshCall d n) room
+begins (freshCall d n rule) room = succeeds (freshCall d n rule) room
 begins (feedCall word sat w t band) room = false
 begins (tagCall sat kind cop l status w t given verdict) room = false
 begins (candidateCall sat kind cop w t) room = false
@@ -88,7 +88,7 @@ pub record Tag : Type 0 where
 -- STORE 15.3: a tag counts on a line where it is answered 0 and where the line is of its family and its record has the candidate's
 -- satellite and bits
 unfoldable pub counted : Call → List ℕ → Place → List Tag
-counted (freshCall d n) room place = []
+counted (freshCall d n rule) room place = []
 counted (feedCall word sat w t band) room place = []
 counted (tagCall sat kind cop l status w t given verdict) room place =
     let candidate = candidateRecord (familyOf kind) sat w t room in

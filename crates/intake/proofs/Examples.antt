@@ -18,7 +18,7 @@ pub unknown-alone : recordsOf (255 ∷ []) ≡ whole Unknown [] ∷ []
 unfolding recordsOf itemsOf stageOf stageAfter itemsWith itemsAtEnd kindOf
 unknown-alone = refl
 
-pub behind-unknown : recordsOf (4 ∷ 9 ∷ 9 ∷ 3 ∷ 1 ∷ []) ≡ whole Ced (9 ∷ []) ∷ whole Unknown [] ∷ []
+pub behind-unknown : recordsOf (4 ∷ 9 ∷ 10 ∷ 3 ∷ 1 ∷ []) ≡ whole Ced (9 ∷ []) ∷ whole Unknown [] ∷ []
 unfolding recordsOf itemsOf stageOf stageAfter itemsWith itemsAtEnd kindOf
 behind-unknown = refl
 

@@ -11,7 +11,7 @@ use borrow.Author.Tests.{lt-ltb, le-ltb, ltb-true, ltb-false, eq-eqb, ne-eqb}
 use Rattle.text.specs.Text.{putText}
 use Rattle.text.proofs.Puts.{length-putText, putText-one, putText-then}
 use Rattle.lines.specs.declared.Kind.{Kind}
-use Rattle.lines.specs.declared.Kind.the-variants.{Word, Tag, Reset, Ced, Timing, Fresh, Unknown}
+use Rattle.lines.specs.declared.Kind.the-variants.{Word, Tag, Reset, Ced, Timing, Fresh, FreshRuled, Unknown}
 use Rattle.lines.specs.Kinds.{kindOf, bodyLength, longestRecord}
 use Rattle.lines.proofs.Longest.{body-within}
 use Rattle.intake.specs.Input.{Stage, going, ended, unfinished, behind, stageAfter, stageOf}
@@ -47,6 +47,7 @@ behind-proper Reset = none-unfinished
 behind-proper Ced = none-unfinished
 behind-proper Timing = none-unfinished
 behind-proper Fresh = none-unfinished
+behind-proper FreshRuled = none-unfinished
 behind-proper Unknown = tt
 
 after-proper : (s : Stage) (b : ℕ) → Proper (stageAfter s b)

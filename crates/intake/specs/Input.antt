@@ -10,7 +10,7 @@ use Rattle.paper.specs.Call.{Call, run}
 use Rattle.text.specs.Text.{hex32}
 use Rattle.adler.specs.Adler.{adlerOf}
 use Rattle.lines.specs.declared.Kind.{Kind}
-use Rattle.lines.specs.declared.Kind.the-variants.{Word, Tag, Reset, Ced, Timing, Fresh, Unknown}
+use Rattle.lines.specs.declared.Kind.the-variants.{Word, Tag, Reset, Ced, Timing, Fresh, FreshRuled, Unknown}
 use Rattle.lines.specs.Kinds.{kindOf, bodyLength}
 use Rattle.lines.specs.Lines.{lineOf, longestLine}
 use Rattle.benchlines.specs.Records.{Deed, says, deedOf, callsIn, answerOn, unknownKind, recordLine}
@@ -38,6 +38,7 @@ behind Reset = going []
 behind Ced = going []
 behind Timing = going []
 behind Fresh = going []
+behind FreshRuled = going []
 behind Unknown = ended unknownKind
 
 -- one byte more

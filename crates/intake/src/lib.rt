@@ -139,6 +139,7 @@ fn ends(kind: Kind) -> bool
         Kind::Ced => false,
         Kind::Timing => false,
         Kind::Fresh => false,
+        Kind::FreshRuled => false,
         Kind::Unknown => true,
     }
 }

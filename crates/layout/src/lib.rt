@@ -12,16 +12,18 @@ pub const MOST_ROWS: u8 = 16;
 // STORE 7.1: the most slots, N
 pub const MOST_SLOTS: u8 = 36;
 
-// STORE 7.3: D, N, the current row, five zeros
+// STORE 7.3: D, N, the current row, the ageing rule, four zeros
 pub const DEPTH_AT: usize = 0;
 
 pub const SLOTS_AT: usize = DEPTH_AT + 1;
 
 pub const CURRENT_AT: usize = SLOTS_AT + 1;
 
-pub const ZEROS_AT: usize = CURRENT_AT + 1;
+pub const RULE_AT: usize = CURRENT_AT + 1;
 
-pub const HEADER: usize = ZEROS_AT + 5;
+pub const ZEROS_AT: usize = RULE_AT + 1;
+
+pub const HEADER: usize = ZEROS_AT + 4;
 
 // STORE 7.4: a mark, a week, a time and a spare byte
 pub const MARK_AT: usize = 0;
@@ -36,6 +38,9 @@ pub const ROW_HEAD: usize = SPARE_AT + 1;
 
 // a row that is marked with a subframe
 pub const MARKED: u8 = 1;
+
+// STORE 7.7: the rule under which ages count time; the one before it, 0, counts the moves of the ring
+pub const TIME_RULE: u8 = 1;
 
 // where the timing record of a slot starts
 pub const TIMING_AT: usize = Ced::SIZE;

@@ -5,6 +5,10 @@ use contract.Lifetimes.{Lfts}
 use mathlib.Core.Path.{_≡_, sym, _∙_}
 use Rattle.limits.proofs.sizes_allowed.Reads as sizes
 use Rattle.limits.proofs.sizes_allowed.Kinds as sizes-kinds
+use Rattle.limits.proofs.rule_known.Reads as rule
+use Rattle.limits.proofs.rule_known.Kinds as rule-kinds
+use Rattle.limits.proofs.fresh_allowed.Reads as fresh
+use Rattle.limits.proofs.fresh_allowed.Kinds as fresh-kinds
 use Rattle.limits.proofs.kind_known.Reads as kind
 use Rattle.limits.proofs.kind_known.Kinds as kind-kinds
 use Rattle.limits.proofs.cop_allowed.Reads as cop
@@ -24,6 +28,16 @@ pub sizes-allowed-determined :
     (κs : Lfts 0) (a : Dens κs sizes-kinds.ps) (r r' : resT sizes-kinds.r κs .Denot)
     (e e' : AtExit (endedOf 0 sizes-kinds.ps sizes-kinds.r) κs) → sizes.Post κs a r e → sizes.Post κs a r' e' → r ≡ r'
 sizes-allowed-determined κs a r r' e e' p q = p ∙ sym q
+
+pub rule-known-determined :
+    (κs : Lfts 0) (a : Dens κs rule-kinds.ps) (r r' : resT rule-kinds.r κs .Denot)
+    (e e' : AtExit (endedOf 0 rule-kinds.ps rule-kinds.r) κs) → rule.Post κs a r e → rule.Post κs a r' e' → r ≡ r'
+rule-known-determined κs a r r' e e' p q = p ∙ sym q
+
+pub fresh-allowed-determined :
+    (κs : Lfts 0) (a : Dens κs fresh-kinds.ps) (r r' : resT fresh-kinds.r κs .Denot)
+    (e e' : AtExit (endedOf 0 fresh-kinds.ps fresh-kinds.r) κs) → fresh.Post κs a r e → fresh.Post κs a r' e' → r ≡ r'
+fresh-allowed-determined κs a r r' e e' p q = p ∙ sym q
 
 pub kind-known-determined :
     (κs : Lfts 0) (a : Dens κs kind-kinds.ps) (r r' : resT kind-kinds.r κs .Denot)

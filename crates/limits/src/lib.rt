@@ -1,10 +1,11 @@
 // Which numbers a call takes: the sizes of a store, and the numbers that come with a tag. Each test is of its numbers alone.
 ghost use mathlib.Core.Path.{_≡_};
 ghost use mathlib.Core.Bool.{_&&_};
-ghost use Rattle.paper.specs.Store.{sizesAllowed};
+ghost use Rattle.paper.specs.Store.{sizesAllowed, ruleKnown};
 ghost use Rattle.paper.specs.Tag.{kindKnown, copAllowed, lengthAllowed, statusKnown, statusAdds};
 use layout::MOST_ROWS;
 use layout::MOST_SLOTS;
+use layout::TIME_RULE;
 
 // The bytes of a word.
 pub const WORD_BYTES: usize = 16;
@@ -30,6 +31,23 @@ pub fn sizes_allowed(d: u8, n: u8) -> bool
         return false;
     }
     n <= MOST_SLOTS
+}
+
+// STORE 7.7: the ageing rules
+pub fn rule_known(rule: u8) -> bool
+    ensures { λ r. ⌜ r ≡ ruleKnown rule ⌝ }
+{
+    rule <= TIME_RULE
+}
+
+// 1: D, N or the rule outside its range
+pub fn fresh_allowed(d: u8, n: u8, rule: u8) -> bool
+    ensures { λ r. ⌜ r ≡ (sizesAllowed d n && ruleKnown rule) ⌝ }
+{
+    if !sizes_allowed(d, n) {
+        return false;
+    }
+    rule_known(rule)
 }
 
 // whether a tag of the kind is known

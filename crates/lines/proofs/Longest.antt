@@ -4,7 +4,7 @@ use native.Mathlib.Omega.{arith}
 use Prim.Native.Nat.{_<_}
 use lib.ListN.{length}
 use Rattle.lines.specs.declared.Kind.{Kind}
-use Rattle.lines.specs.declared.Kind.the-variants.{Word, Tag, Reset, Ced, Timing, Fresh, Unknown}
+use Rattle.lines.specs.declared.Kind.the-variants.{Word, Tag, Reset, Ced, Timing, Fresh, FreshRuled, Unknown}
 use Rattle.lines.specs.Kinds.{bodyLength, longestRecord, letterOf}
 
 pub letter-two : (k : Kind) → length (letterOf k) ≡ 2
@@ -14,6 +14,7 @@ letter-two Reset = refl
 letter-two Ced = refl
 letter-two Timing = refl
 letter-two Fresh = refl
+letter-two FreshRuled = refl
 letter-two Unknown = refl
 
 pub body-within : (k : Kind) → bodyLength k < longestRecord
@@ -23,4 +24,5 @@ body-within Reset = omega arith
 body-within Ced = omega arith
 body-within Timing = omega arith
 body-within Fresh = omega arith
+body-within FreshRuled = omega arith
 body-within Unknown = omega arith

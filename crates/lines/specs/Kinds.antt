@@ -5,14 +5,14 @@ use mathlib.Core.List.{List, [], _∷_}
 use lib.Dec.{eqb}
 use Rattle.paper.specs.Word.{wordBytes}
 use Rattle.lines.specs.declared.Kind.{Kind}
-use Rattle.lines.specs.declared.Kind.the-variants.{Word, Tag, Reset, Ced, Timing, Fresh, Unknown}
+use Rattle.lines.specs.declared.Kind.the-variants.{Word, Tag, Reset, Ced, Timing, Fresh, FreshRuled, Unknown}
 
 -- STORE 17.2: the kind of a byte
 unfoldable pub kindOf : ℕ → Kind
 kindOf b =
     cond (eqb b 1) Word
     (cond (eqb b 2) Tag
-    (cond (eqb b 3) Reset (cond (eqb b 4) Ced (cond (eqb b 5) Timing (cond (eqb b 6) Fresh Unknown)))))
+    (cond (eqb b 3) Reset (cond (eqb b 4) Ced (cond (eqb b 5) Timing (cond (eqb b 6) Fresh (cond (eqb b 9) FreshRuled Unknown))))))
 
 -- STORE 17.1: the length of the body that a kind has; an unknown kind is answered without one
 abbrev pub bodyLength : Kind → ℕ
@@ -22,6 +22,7 @@ bodyLength Reset = 0
 bodyLength Ced = 1
 bodyLength Timing = 1
 bodyLength Fresh = 2
+bodyLength FreshRuled = 3
 bodyLength Unknown = 0
 
 -- the longest record: its kind and a word's body
@@ -36,4 +37,5 @@ letterOf Reset = 114 ∷ 32 ∷ []
 letterOf Ced = 99 ∷ 32 ∷ []
 letterOf Timing = 112 ∷ 32 ∷ []
 letterOf Fresh = 102 ∷ 32 ∷ []
+letterOf FreshRuled = 102 ∷ 32 ∷ []
 letterOf Unknown = 120 ∷ 32 ∷ []

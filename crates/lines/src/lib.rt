@@ -45,6 +45,7 @@ pub enum Kind {
     Ced,
     Timing,
     Fresh,
+    FreshRuled,
     Unknown,
 }
 
@@ -72,6 +73,7 @@ impl Kind {
             4 => Kind::Ced,
             5 => Kind::Timing,
             6 => Kind::Fresh,
+            9 => Kind::FreshRuled,
             _ => Kind::Unknown,
         }
     }
@@ -87,6 +89,7 @@ impl Kind {
             Kind::Ced => 1,
             Kind::Timing => 1,
             Kind::Fresh => 2,
+            Kind::FreshRuled => 3,
             Kind::Unknown => 0,
         }
     }
@@ -101,6 +104,7 @@ impl Kind {
             Kind::Ced => *b"c ",
             Kind::Timing => *b"p ",
             Kind::Fresh => *b"f ",
+            Kind::FreshRuled => *b"f ",
             Kind::Unknown => *b"x ",
         }
     }

@@ -31,10 +31,10 @@ pub done-pair : (r : Reply) (k : ℕ) (after out room : List ℕ) → r ≡ Done
 done-pair r k after out room q e o = (ap replyAnswer (sym q) ∙ e, o ∙ done-room k after room (does r k [] q e))
 
 -- a word that is answered 0: what the room's half asks
-pub fed-passed : (word : List ℕ) (sat t band : ℕ) (room : List ℕ) → feedNumber word sat t band room ≡ 0
+pub fed-passed : (word : List ℕ) (sat w t band : ℕ) (room : List ℕ) → feedNumber word sat w t band room ≡ 0
     → InRange room × (isTime t ≡ true) × (length word ≡ wordBytes)
 unfolding feedNumber
-fed-passed word sat t band room e =
+fed-passed word sat w t band room e =
     let a = unless-zero (isStore room) 3 _ (omega arith) e in
     let b = unless-zero (isSatellite sat) 4 _ (omega arith) (a .1) in
     let c = unless-zero (isTime t) 5 _ (omega arith) (b .1) in

@@ -16,16 +16,16 @@ use svn::Svn;
 use tags::Candidate;
 use tags::Tagged;
 
-// A fresh store of d rows and n slots at the start of the room.
-pub fn fresh(room: &mut [u8], d: u8, n: u8) -> Reply
-    ensures { λ r. ⌜ (replyAnswer r ≡ freshAnswer d n (now (room .entry)))
-        × (now (room .exit) ≡ freshRoom d n (now (room .entry))) ⌝ }
+// A fresh store of d rows and n slots at the start of the room, under an ageing rule (0 by the moves of the ring, 1 by time).
+pub fn fresh(room: &mut [u8], d: u8, n: u8, rule: u8) -> Reply
+    ensures { λ r. ⌜ (replyAnswer r ≡ freshAnswer d n rule (now (room .entry)))
+        × (now (room .exit) ≡ freshRoom d n rule (now (room .entry))) ⌝ }
 {
-    let reply = entry::fresh_entry(room, d, n);
+    let reply = entry::fresh_entry(room, d, n, rule);
     if let Reply::Refused(why) = reply {
         return Reply::Refused(why);
     }
-    fresh::fresh_room(room, d, n);
+    fresh::fresh_room(room, d, n, rule);
     Reply::Done
 }
 
@@ -43,7 +43,7 @@ pub fn reset_authbits(room: &mut [u8]) -> Reply
 
 // A word of a satellite, received at a time on a band (0 E1B, 1 E5B).
 pub fn feed(room: &mut [u8], word: &[u8], svn: Svn, gst: Gst, band: u8) -> Reply
-    ensures { λ r. ⌜ (replyAnswer r ≡ feedAnswer (now (word .entry)) (svn .0) (gst .tow .0) band (now (room .entry)))
+    ensures { λ r. ⌜ (replyAnswer r ≡ feedAnswer (now (word .entry)) (svn .0) (gst .wn .0) (gst .tow .0) band (now (room .entry)))
         × (now (room .exit) ≡ feedRoom (now (word .entry)) (svn .0) (gst .wn .0) (gst .tow .0) band (now (room .entry))) ⌝ }
 {
     let reply = entry::feed_entry(room, word, svn, gst, band);

@@ -48,57 +48,57 @@ module _ (n : ℕ) (row : List ℕ) (l : length row ≡ rowSize n) where
       (omega (arith, blankHead-length)) h (slot-fits f)
       ∙ in-blankSlot f
 
-module _ (d n : ℕ) (room : List ℕ) (fits : roomSize d n ≤ length room) where
+module _ (d n rule : ℕ) (room : List ℕ) (fits : roomSize d n ≤ length room) where
   abbrev headed : List ℕ
-  headed = onPart (λ (_ : List ℕ). header d n) 0 headerSize room
+  headed = onPart (λ (_ : List ℕ). header d n rule) 0 headerSize room
 
   headed-length : length headed ≡ length room
-  headed-length = onPart-length (λ (_ : List ℕ). header d n) headerSize (keeps-const headerSize (header d n) refl) 0 room (omega arith)
+  headed-length = onPart-length (λ (_ : List ℕ). header d n rule) headerSize (keeps-const headerSize (header d n rule) refl) 0 room (omega arith)
 
   headed-fits : roomSize d n ≤ length headed
   headed-fits = rw headed-length fits
 
-  pub fresh-length : length (fresh d n room) ≡ length room
+  pub fresh-length : length (fresh d n rule room) ≡ length room
   unfolding fresh
   fresh-length = onParts-length (blankRow n) (rowSize n) (keeps-blankRow n) d headerSize headed headed-fits ∙ headed-length
 
-  pub fresh-header : (i : ℕ) → i < headerSize → getD (fresh d n room) i 0 ≡ getD (header d n) i 0
+  pub fresh-header : (i : ℕ) → i < headerSize → getD (fresh d n rule room) i 0 ≡ getD (header d n rule) i 0
   unfolding fresh
   fresh-header i h =
       onParts-getD-before (blankRow n) (rowSize n) (keeps-blankRow n) d headerSize i headed headed-fits h
-      ∙ rw zero-add at (onPart-getD-in (λ (_ : List ℕ). header d n) headerSize (keeps-const headerSize (header d n) refl) 0 room (omega arith) i h)
+      ∙ rw zero-add at (onPart-getD-in (λ (_ : List ℕ). header d n rule) headerSize (keeps-const headerSize (header d n rule) refl) 0 room (omega arith) i h)
 
-  pub fresh-depth : depth (fresh d n room) ≡ d
+  pub fresh-depth : depth (fresh d n rule room) ≡ d
   fresh-depth = fresh-header depthAt (omega arith)
 
-  pub fresh-slots : slots (fresh d n room) ≡ n
+  pub fresh-slots : slots (fresh d n rule room) ≡ n
   fresh-slots = fresh-header slotsAt (omega arith)
 
-  pub fresh-current : current (fresh d n room) ≡ 0
+  pub fresh-current : current (fresh d n rule room) ≡ 0
   fresh-current = fresh-header currentAt (omega arith)
 
-  fresh-rowIn : (r : ℕ) → r < d → rowIn n r (fresh d n room) ≡ blankRow n (rowIn n r headed)
+  fresh-rowIn : (r : ℕ) → r < d → rowIn n r (fresh d n rule room) ≡ blankRow n (rowIn n r headed)
   unfolding fresh
   fresh-rowIn r h = onParts-part (blankRow n) (rowSize n) (keeps-blankRow n) d headerSize r headed headed-fits h
 
-  pub fresh-row : (r : ℕ) → r < d → rowOf r (fresh d n room) ≡ blankRow n (rowIn n r room)
+  pub fresh-row : (r : ℕ) → r < d → rowOf r (fresh d n rule room) ≡ blankRow n (rowIn n r room)
   fresh-row r h =
       rw fresh-slots
       (fresh-rowIn r h
-      ∙ ap (blankRow n) (onPart-after (λ (_ : List ℕ). header d n) headerSize (keeps-const headerSize (header d n) refl) 0 room (omega arith) (rowAt n r) (rowSize n) (omega arith)))
+      ∙ ap (blankRow n) (onPart-after (λ (_ : List ℕ). header d n rule) headerSize (keeps-const headerSize (header d n rule) refl) 0 room (omega arith) (rowAt n r) (rowSize n) (omega arith)))
 
-  pub fresh-head : (r : ℕ) → r < d → (k : ℕ) → k < headSize → getD (rowOf r (fresh d n room)) k 0 ≡ 0
+  pub fresh-head : (r : ℕ) → r < d → (k : ℕ) → k < headSize → getD (rowOf r (fresh d n rule room)) k 0 ≡ 0
   fresh-head r h k b =
       ap (λ (row : List ℕ). getD row k 0) (fresh-row r h) ∙ blankRow-head n (rowIn n r room) (length-row d n r room fits h) k b
 
-  pub fresh-record : (f : Family) (r : ℕ) → r < d → (i : ℕ) → i < n → recordOf f i (rowOf r (fresh d n room)) ≡ blankRecord f
+  pub fresh-record : (f : Family) (r : ℕ) → r < d → (i : ℕ) → i < n → recordOf f i (rowOf r (fresh d n rule room)) ≡ blankRecord f
   fresh-record f r h i b = ap (recordOf f i) (fresh-row r h) ∙ blankRow-record n (rowIn n r room) (length-row d n r room fits h) f i b
 
-  pub fresh-past : (k : ℕ) → roomSize d n ≤ k → drop k (fresh d n room) ≡ drop k room
+  pub fresh-past : (k : ℕ) → roomSize d n ≤ k → drop k (fresh d n rule room) ≡ drop k room
   unfolding fresh
   fresh-past k h =
       onParts-drop (blankRow n) (rowSize n) (keeps-blankRow n) d headerSize k headed headed-fits h
-      ∙ onPart-drop (λ (_ : List ℕ). header d n) headerSize (keeps-const headerSize (header d n) refl) 0 room (omega arith) k (omega arith)
+      ∙ onPart-drop (λ (_ : List ℕ). header d n rule) headerSize (keeps-const headerSize (header d n rule) refl) 0 room (omega arith) k (omega arith)
 
 -- ---- a tag
 module _ (f : Family) (candidate : List ℕ) (l : ℕ) (room : List ℕ) (F : InRange room) where

@@ -100,11 +100,11 @@ pub keeps-markedAt : (k w t : ℕ) → Keeps (markedAt w t) k
 unfolding markedAt
 keeps-markedAt k w t r h = length-put32 (put16 (set r markAt 1) weekAt w) timeAt t ∙ length-put16 (set r markAt 1) weekAt w ∙ length-set r markAt 1 ∙ h
 
-pub keeps-agedRow : (n : ℕ) → Keeps (agedRow n) (rowSize n)
+pub keeps-agedRow : (by n : ℕ) → Keeps (agedRow by n) (rowSize n)
 unfolding agedRow
-keeps-agedRow n row l =
-    eachRecord-length Timing (aged Timing 1) (keeps-aged Timing 1) n (eachRecord CED n (aged CED 1) row)
-    (eachRecord-length CED (aged CED 1) (keeps-aged CED 1) n row l)
+keeps-agedRow by n row l =
+    eachRecord-length Timing (aged Timing by) (keeps-aged Timing by) n (eachRecord CED n (aged CED by) row)
+    (eachRecord-length CED (aged CED by) (keeps-aged CED by) n row l)
 
 pub length-blankSlot : length blankSlot ≡ slotSize
 unfolding blankSlot

@@ -1,7 +1,7 @@
 -- What stands where in a record after a change of it: its satellite, its count, its ages, its data and its last byte. Assumes nothing.
 use mathlib.Core.Bool.{Bool, true, false, cond, _||_}
 use mathlib.Core.List.{List, _∷_, _++_, map}
-use mathlib.Core.Path.{_≡_, refl, sym, ap, _∙_}
+use mathlib.Core.Path.{_≡_, refl, sym, ap, fun-ext, _∙_}
 use Prim.Native.Nat.{ℕ, _+_, _-_, _<_, _≤_, min}
 use native.Mathlib.Omega.{arith}
 use native.Mathlib.Decide.{decLt}
@@ -90,6 +90,14 @@ module _ (f : Family) (by : ℕ) (rec : List ℕ) (l : length rec ≡ size f) wh
 
   pub aged-data : dataOf f (aged f by rec) ≡ dataOf f rec
   aged-data = same-data f (aged f by rec) rec aged-drop
+
+-- what is more than the greatest age may be held there first
+older-held : (by : ℕ) → older (min oldest by) ≡ older by
+older-held by = fun-ext (λ a. omega arith)
+
+pub aged-held : (f : Family) (by : ℕ) → aged f (min oldest by) ≡ aged f by
+unfolding aged
+aged-held f by = fun-ext (λ rec. ap (λ (g : ℕ → ℕ). onPart (map g) agesAt (ages f) rec) (older-held by))
 
 -- ---- a satellite taken
 -- whether the record held that satellite or none

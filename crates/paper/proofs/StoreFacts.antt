@@ -11,9 +11,9 @@ use lib.ListN.{length, getD}
 use Rattle.paper.specs.Big.{be16, be32}
 use Rattle.paper.specs.Parts.{part, allParts}
 use Rattle.paper.specs.Record.{Family, CED, Timing, lastWeight, size, satellite, count}
-use Rattle.paper.specs.Room.{mostRows, mostSlots, currentAt, zerosAt, headerSize, headSize, slotSize, slotAt, base, rowSize}
+use Rattle.paper.specs.Room.{mostRows, mostSlots, currentAt, ruleAt, zerosAt, headerSize, headSize, slotSize, slotAt, base, rowSize}
 use Rattle.paper.specs.Room.{roomSize, depth, slots, current, rowOf, mark, week, time, spare, recordOf}
-use Rattle.paper.specs.Store.{sizesAllowed, headerInRange, InRange, headerZeros, satelliteAllowed, countHasSatellite, noBitPast, recordAllowed}
+use Rattle.paper.specs.Store.{sizesAllowed, headerInRange, InRange, headerRest, satelliteAllowed, countHasSatellite, noBitPast, recordAllowed}
 use Rattle.paper.specs.Store.{slotAllowed, markAllowed, subframeAllowed, blankAllowed, mostIn, rowAllowed, isStore}
 use Rattle.paper.specs.Satellite.{mostSatellites}
 use Rattle.paper.specs.Time.{subframeSeconds, lastStart}
@@ -43,7 +43,7 @@ sizes-allowed d n a b c e = rw (le-leb 1 d a, le-leb d mostRows b, le-leb 1 n c,
 record Clauses (room : List ℕ) : Type 0 where
   long : leb headerSize (length room) ≡ true
   inRange : headerInRange room ≡ true
-  zeros : headerZeros room ≡ true
+  rest : headerRest room ≡ true
   fits : leb (roomSize (depth room) (slots room)) (length room) ≡ true
   rows : allParts (rowAllowed (slots room)) (rowSize (slots room)) (depth room) headerSize room ≡ true
 
@@ -51,13 +51,13 @@ clauses : (room : List ℕ) → isStore room ≡ true → Clauses room
 unfolding isStore
 clauses room e =
     let a = both-true
-    (leb headerSize (length room) && headerInRange room && headerZeros room && leb (roomSize (depth room) (slots room)) (length room))
+    (leb headerSize (length room) && headerInRange room && headerRest room && leb (roomSize (depth room) (slots room)) (length room))
     (allParts (rowAllowed (slots room)) (rowSize (slots room)) (depth room) headerSize room)
     e in
-    let b = both-true (leb headerSize (length room) && headerInRange room && headerZeros room) (leb (roomSize (depth room) (slots room)) (length room)) (a .0) in
-    let c = both-true (leb headerSize (length room) && headerInRange room) (headerZeros room) (b .0) in
+    let b = both-true (leb headerSize (length room) && headerInRange room && headerRest room) (leb (roomSize (depth room) (slots room)) (length room)) (a .0) in
+    let c = both-true (leb headerSize (length room) && headerInRange room) (headerRest room) (b .0) in
     let d = both-true (leb headerSize (length room)) (headerInRange room) (c .0) in
-    record { long = d .0; inRange = d .1; zeros = c .1; fits = b .1; rows = a .1 }
+    record { long = d .0; inRange = d .1; rest = c .1; fits = b .1; rows = a .1 }
 
 header-facts : (room : List ℕ) → headerInRange room ≡ true → (sizesAllowed (depth room) (slots room) ≡ true) × (current room < depth room)
 unfolding headerInRange
@@ -80,8 +80,8 @@ store-facts room e =
       fits = leb-true (roomSize (depth room) (slots room)) (length room) (c .fits);
     }
 
-pub store-zeros : (room : List ℕ) → isStore room ≡ true → headerZeros room ≡ true
-store-zeros room e = clauses room e .zeros
+pub store-rest : (room : List ℕ) → isStore room ≡ true → headerRest room ≡ true
+store-rest room e = clauses room e .rest
 
 pub store-row : (room : List ℕ) → isStore room ≡ true → (r : ℕ) → r < depth room → rowAllowed (slots room) (rowOf r room) ≡ true
 store-row room e r h = all-part (rowAllowed (slots room)) (rowSize (slots room)) (depth room) headerSize room (clauses room e .rows) r h
@@ -94,23 +94,23 @@ in-range room F =
     (sizes-allowed (depth room) (slots room) (F .someRow) (F .rowsWithin) (F .someSlot) (F .slotsWithin))
     (lt-ltb (current room) (depth room) (F .inRing))
 
-pub facts-store : (room : List ℕ) → InRange room → headerZeros room ≡ true
+pub facts-store : (room : List ℕ) → InRange room → headerRest room ≡ true
     → ((r : ℕ) → r < depth room → rowAllowed (slots room) (rowOf r room) ≡ true) → isStore room ≡ true
 unfolding isStore
 facts-store room F z rows =
     rw (le-leb headerSize (length room) (F .long), in-range room F, z, le-leb (roomSize (depth room) (slots room)) (length room) (F .fits))
     (all-true (rowAllowed (slots room)) (rowSize (slots room)) (depth room) headerSize room rows)
 
--- the five zeros of the header
-pub zeros-same : (x y : List ℕ) → ((i : ℕ) → i < headerSize → i ≢ currentAt → getD y i 0 ≡ getD x i 0) → headerZeros x ≡ true → headerZeros y ≡ true
-unfolding headerZeros be32 be16
-zeros-same x y e z =
+-- the rule and the four zeros of the header
+pub rest-same : (x y : List ℕ) → ((i : ℕ) → i < headerSize → i ≢ currentAt → getD y i 0 ≡ getD x i 0) → headerRest x ≡ true → headerRest y ≡ true
+unfolding headerRest be32 be16
+rest-same x y e z =
     rw (
+      e ruleAt (omega arith) (omega arith),
       e zerosAt (omega arith) (omega arith),
       e (zerosAt + 1) (omega arith) (omega arith),
       e (zerosAt + 2) (omega arith) (omega arith),
       e (zerosAt + 3) (omega arith) (omega arith),
-      e (zerosAt + 4) (omega arith) (omega arith),
     )
     z
 

@@ -3,7 +3,7 @@ use mathlib.Core.Bool.{Bool, true, false, cond}
 use mathlib.Core.List.{List}
 use mathlib.Core.Logic.{_≢_}
 use mathlib.Core.Path.{_≡_, refl, sym, ap, _∙_}
-use Prim.Native.Nat.{ℕ, zero, suc, _+_, _*_, _<_, _≤_}
+use Prim.Native.Nat.{ℕ, zero, suc, _+_, _*_, _<_, _≤_, min}
 use native.Mathlib.Omega.{arith}
 use lib.Dec.{eqb, ltb}
 use borrow.Author.Tests.{ltb-true, eqb-true, eqb-false}
@@ -11,16 +11,17 @@ use lib.ListN.{length, take, drop, getD, set, length-set}
 use lib.Seq.{getD-set-same, getD-set-other, drop-set-lt}
 use Rattle.paper.specs.Big.{put16, put32}
 use Rattle.paper.specs.Parts.{part, onPart}
-use Rattle.paper.specs.Record.{Family, CED, Timing, size, aged}
+use Rattle.paper.specs.Record.{Family, CED, Timing, size, oldest, aged}
 use Rattle.paper.specs.Room.{depthAt, slotsAt, currentAt, headerSize, markAt, weekAt, timeAt, spareAt, headSize, slotSize, base, rowSize, roomSize}
 use Rattle.paper.specs.Room.{depth, slots, current, rowAt, rowOf, mark, week, time, spare, recordAt, recordOf, eachRecord}
 use Rattle.paper.specs.Word.{fedRecord}
-use Rattle.paper.specs.Feed.{nextRow, moves, copied, agedRow, advanced, markedAt, currentMarked, settled, lastGreatest, chosen, key, fedFamily, fedRow, fedCurrent, fed}
+use Rattle.paper.specs.Feed.{nextRow, moves, risesBy, copied, agedRow, advanced, markedAt, currentMarked, settled, lastGreatest, chosen, key, fedFamily, fedRow, fedCurrent, fed}
 use Rattle.paper.specs.Store.{InRange}
 use Rattle.paper.proofs.Big.{length-put16, put16-other, put16-drop, put32-take, put32-drop, be16-put16, be16-before, be32-put32}
 use Rattle.paper.proofs.Parts.{Keeps, length-part, part-part, getD-same-before, getD-same-after, onPart-length, onPart-getD-before, onPart-within, onPart-nested}
 use Rattle.paper.proofs.Views.{rowIn, row-fits, row-inside, length-rowOf, facts-same, other, slot-fits, onRow-length, onRow-header, onRow-here, onRow-there}
 use Rattle.paper.proofs.Views.{onRow-past, header-set-row, onRecord-head, onRecord-here, onRecord-there, onRecord-other, eachRecord-length, eachRecord-head, eachRecord-here, eachRecord-other}
+use Rattle.paper.proofs.RecordViews.{aged-held}
 use Rattle.paper.proofs.Lengths.{keeps-const, keeps-aged, keeps-fedRecord, keeps-markedAt, keeps-agedRow, lastGreatest-lt, chosen-lt, keeps-fedFamily, keeps-fedRow}
 
 -- ---- a row filled with the records of another
@@ -55,24 +56,24 @@ copied-row n c e room h =
     ∙ sym (onPart-nested (λ (_ : List ℕ). part headSize (n * slotSize) (rowIn n c room)) headSize (n * slotSize) (rowAt n e) (rowSize n) room (omega arith) h)
 
 -- ---- a row aged
-module _ (n : ℕ) (row : List ℕ) (l : length row ≡ rowSize n) where
-  first-aged : length (eachRecord CED n (aged CED 1) row) ≡ rowSize n
-  first-aged = eachRecord-length CED (aged CED 1) (keeps-aged CED 1) n row l
+module _ (by n : ℕ) (row : List ℕ) (l : length row ≡ rowSize n) where
+  first-aged : length (eachRecord CED n (aged CED by) row) ≡ rowSize n
+  first-aged = eachRecord-length CED (aged CED by) (keeps-aged CED by) n row l
 
-  pub agedRow-head : (k : ℕ) → k < headSize → getD (agedRow n row) k 0 ≡ getD row k 0
+  pub agedRow-head : (k : ℕ) → k < headSize → getD (agedRow by n row) k 0 ≡ getD row k 0
   unfolding agedRow
   agedRow-head k h =
-      eachRecord-head Timing (aged Timing 1) (keeps-aged Timing 1) n (eachRecord CED n (aged CED 1) row) first-aged k h
-      ∙ eachRecord-head CED (aged CED 1) (keeps-aged CED 1) n row l k h
+      eachRecord-head Timing (aged Timing by) (keeps-aged Timing by) n (eachRecord CED n (aged CED by) row) first-aged k h
+      ∙ eachRecord-head CED (aged CED by) (keeps-aged CED by) n row l k h
 
-  pub agedRow-record : (f : Family) (i : ℕ) → i < n → recordOf f i (agedRow n row) ≡ aged f 1 (recordOf f i row)
+  pub agedRow-record : (f : Family) (i : ℕ) → i < n → recordOf f i (agedRow by n row) ≡ aged f by (recordOf f i row)
   unfolding agedRow
   agedRow-record CED i h =
-      eachRecord-other Timing (aged Timing 1) (keeps-aged Timing 1) n (eachRecord CED n (aged CED 1) row) first-aged i h
-      ∙ eachRecord-here CED (aged CED 1) (keeps-aged CED 1) n row l i h
+      eachRecord-other Timing (aged Timing by) (keeps-aged Timing by) n (eachRecord CED n (aged CED by) row) first-aged i h
+      ∙ eachRecord-here CED (aged CED by) (keeps-aged CED by) n row l i h
   agedRow-record Timing i h =
-      eachRecord-here Timing (aged Timing 1) (keeps-aged Timing 1) n (eachRecord CED n (aged CED 1) row) first-aged i h
-      ∙ ap (aged Timing 1) (eachRecord-other CED (aged CED 1) (keeps-aged CED 1) n row l i h)
+      eachRecord-here Timing (aged Timing by) (keeps-aged Timing by) n (eachRecord CED n (aged CED by) row) first-aged i h
+      ∙ ap (aged Timing by) (eachRecord-other CED (aged CED by) (keeps-aged CED by) n row l i h)
 
 -- ---- the ring advanced
 pub nextRow-lt : (d c : ℕ) → 1 ≤ d → nextRow d c < d
@@ -107,70 +108,76 @@ module _ (room : List ℕ) (F : InRange room) where
   abbrev ahead : List ℕ
   ahead = set copy currentAt (rowAhead room)
 
-  advanced-is : advanced room ≡ onPart (agedRow (slots room)) (rowAt (slots room) (rowAhead room)) (rowSize (slots room)) ahead
-  unfolding advanced
-  advanced-is =
-      ap (λ (x : List ℕ). onPart (agedRow (slots room)) (rowAt (slots room) (rowAhead room)) (rowSize (slots room)) (set x currentAt (rowAhead room)))
-      (copied-row (slots room) (current room) (rowAhead room) room (row-inside room F (rowAhead room) ahead-lt))
+  -- its ages risen by so much
+  module _ (by : ℕ) where
+    advanced-is : advanced by room ≡ onPart (agedRow by (slots room)) (rowAt (slots room) (rowAhead room)) (rowSize (slots room)) ahead
+    unfolding advanced
+    advanced-is =
+        ap (λ (x : List ℕ). onPart (agedRow by (slots room)) (rowAt (slots room) (rowAhead room)) (rowSize (slots room)) (set x currentAt (rowAhead room)))
+        (copied-row (slots room) (current room) (rowAhead room) room (row-inside room F (rowAhead room) ahead-lt))
 
-  length-before : length ahead ≡ length room
-  length-before =
-      length-set copy currentAt (rowAhead room)
-      ∙ onRow-length (slots room) (rowAhead room) (filled (slots room) (rowOf (current room) room)) keeps-filled room (row-inside room F (rowAhead room) ahead-lt)
+    length-before : length ahead ≡ length room
+    length-before =
+        length-set copy currentAt (rowAhead room)
+        ∙ onRow-length (slots room) (rowAhead room) (filled (slots room) (rowOf (current room) room)) keeps-filled room (row-inside room F (rowAhead room) ahead-lt)
 
-  ahead-inside : rowAt (slots room) (rowAhead room) + rowSize (slots room) ≤ length ahead
-  ahead-inside = rw length-before (row-inside room F (rowAhead room) ahead-lt)
+    ahead-inside : rowAt (slots room) (rowAhead room) + rowSize (slots room) ≤ length ahead
+    ahead-inside = rw length-before (row-inside room F (rowAhead room) ahead-lt)
 
-  pub advanced-length : length (advanced room) ≡ length room
-  advanced-length =
-      ap length advanced-is
-      ∙ onRow-length (slots room) (rowAhead room) (agedRow (slots room)) (keeps-agedRow (slots room)) ahead ahead-inside
-      ∙ length-before
+    pub advanced-length : length (advanced by room) ≡ length room
+    advanced-length =
+        ap length advanced-is
+        ∙ onRow-length (slots room) (rowAhead room) (agedRow by (slots room)) (keeps-agedRow by (slots room)) ahead ahead-inside
+        ∙ length-before
 
-  pub advanced-header : (i : ℕ) → i < headerSize → i ≢ currentAt → getD (advanced room) i 0 ≡ getD room i 0
-  advanced-header i h e =
-      ap (λ (x : List ℕ). getD x i 0) advanced-is
-      ∙ onRow-header (slots room) (rowAhead room) (agedRow (slots room)) (keeps-agedRow (slots room)) ahead ahead-inside i h
-      ∙ getD-set-other copy currentAt i (rowAhead room) 0 e
-      ∙ onRow-header (slots room) (rowAhead room) (filled (slots room) (rowOf (current room) room)) keeps-filled room (row-inside room F (rowAhead room) ahead-lt) i h
+    pub advanced-header : (i : ℕ) → i < headerSize → i ≢ currentAt → getD (advanced by room) i 0 ≡ getD room i 0
+    advanced-header i h e =
+        ap (λ (x : List ℕ). getD x i 0) advanced-is
+        ∙ onRow-header (slots room) (rowAhead room) (agedRow by (slots room)) (keeps-agedRow by (slots room)) ahead ahead-inside i h
+        ∙ getD-set-other copy currentAt i (rowAhead room) 0 e
+        ∙ onRow-header (slots room) (rowAhead room) (filled (slots room) (rowOf (current room) room)) keeps-filled room (row-inside room F (rowAhead room) ahead-lt) i h
 
-  pub advanced-current : current (advanced room) ≡ rowAhead room
-  advanced-current =
-      ap current advanced-is
-      ∙ onRow-header (slots room) (rowAhead room) (agedRow (slots room)) (keeps-agedRow (slots room)) ahead ahead-inside currentAt (omega arith)
-      ∙ getD-set-same copy currentAt (rowAhead room) 0
-      (omega (arith, length-before, length-set copy currentAt (rowAhead room), F .long))
+    pub advanced-current : current (advanced by room) ≡ rowAhead room
+    advanced-current =
+        ap current advanced-is
+        ∙ onRow-header (slots room) (rowAhead room) (agedRow by (slots room)) (keeps-agedRow by (slots room)) ahead ahead-inside currentAt (omega arith)
+        ∙ getD-set-same copy currentAt (rowAhead room) 0
+        (omega (arith, length-before, length-set copy currentAt (rowAhead room), F .long))
 
-  pub advanced-facts : InRange (advanced room)
-  advanced-facts =
-      facts-same room (advanced room) F advanced-length (advanced-header depthAt (omega arith) (omega arith)) (advanced-header slotsAt (omega arith) (omega arith))
-      (rw advanced-current ahead-lt)
+    pub advanced-facts : InRange (advanced by room)
+    advanced-facts =
+        facts-same room (advanced by room) F advanced-length (advanced-header depthAt (omega arith) (omega arith)) (advanced-header slotsAt (omega arith) (omega arith))
+        (rw advanced-current ahead-lt)
 
-  -- the row that became current: a copy of the one before it, aged
-  pub advanced-here : rowOf (rowAhead room) (advanced room) ≡ agedRow (slots room) (filled (slots room) (rowOf (current room) room) (rowOf (rowAhead room) room))
-  advanced-here =
-      rw (advanced-header slotsAt (omega arith) (omega arith))
-      (ap (rowIn (slots room) (rowAhead room)) advanced-is
-      ∙ onRow-here (slots room) (rowAhead room) (agedRow (slots room)) (keeps-agedRow (slots room)) ahead ahead-inside
-      ∙ ap (agedRow (slots room))
-      (header-set-row (slots room) (rowAhead room) currentAt (rowAhead room) copy (omega arith)
-      ∙ onRow-here (slots room) (rowAhead room) (filled (slots room) (rowOf (current room) room)) keeps-filled room (row-inside room F (rowAhead room) ahead-lt)))
+    -- the row that became current: a copy of the one before it, aged
+    pub advanced-here : rowOf (rowAhead room) (advanced by room) ≡ agedRow by (slots room) (filled (slots room) (rowOf (current room) room) (rowOf (rowAhead room) room))
+    advanced-here =
+        rw (advanced-header slotsAt (omega arith) (omega arith))
+        (ap (rowIn (slots room) (rowAhead room)) advanced-is
+        ∙ onRow-here (slots room) (rowAhead room) (agedRow by (slots room)) (keeps-agedRow by (slots room)) ahead ahead-inside
+        ∙ ap (agedRow by (slots room))
+        (header-set-row (slots room) (rowAhead room) currentAt (rowAhead room) copy (omega arith)
+        ∙ onRow-here (slots room) (rowAhead room) (filled (slots room) (rowOf (current room) room)) keeps-filled room (row-inside room F (rowAhead room) ahead-lt)))
 
-  pub advanced-there : (r : ℕ) → r ≢ rowAhead room → rowOf r (advanced room) ≡ rowOf r room
-  advanced-there r e =
-      rw (advanced-header slotsAt (omega arith) (omega arith))
-      (ap (rowIn (slots room) r) advanced-is
-      ∙ onRow-there (slots room) (rowAhead room) (agedRow (slots room)) (keeps-agedRow (slots room)) ahead ahead-inside r e
-      ∙ header-set-row (slots room) r currentAt (rowAhead room) copy (omega arith)
-      ∙ onRow-there (slots room) (rowAhead room) (filled (slots room) (rowOf (current room) room)) keeps-filled room (row-inside room F (rowAhead room) ahead-lt) r e)
+    pub advanced-there : (r : ℕ) → r ≢ rowAhead room → rowOf r (advanced by room) ≡ rowOf r room
+    advanced-there r e =
+        rw (advanced-header slotsAt (omega arith) (omega arith))
+        (ap (rowIn (slots room) r) advanced-is
+        ∙ onRow-there (slots room) (rowAhead room) (agedRow by (slots room)) (keeps-agedRow by (slots room)) ahead ahead-inside r e
+        ∙ header-set-row (slots room) r currentAt (rowAhead room) copy (omega arith)
+        ∙ onRow-there (slots room) (rowAhead room) (filled (slots room) (rowOf (current room) room)) keeps-filled room (row-inside room F (rowAhead room) ahead-lt) r e)
 
-  pub advanced-past : (k : ℕ) → roomSize (depth room) (slots room) ≤ k → drop k (advanced room) ≡ drop k room
-  advanced-past k h =
-      let e : rowAt (slots room) (rowAhead room) + rowSize (slots room) ≤ k = omega (arith, row-fits (depth room) (slots room) (rowAhead room) ahead-lt) in
-      ap (drop k) advanced-is
-      ∙ onRow-past (slots room) (rowAhead room) (agedRow (slots room)) (keeps-agedRow (slots room)) ahead ahead-inside k e
-      ∙ drop-set-lt k copy currentAt (rowAhead room) (omega arith)
-      ∙ onRow-past (slots room) (rowAhead room) (filled (slots room) (rowOf (current room) room)) keeps-filled room (row-inside room F (rowAhead room) ahead-lt) k e
+    pub advanced-past : (k : ℕ) → roomSize (depth room) (slots room) ≤ k → drop k (advanced by room) ≡ drop k room
+    advanced-past k h =
+        let e : rowAt (slots room) (rowAhead room) + rowSize (slots room) ≤ k = omega (arith, row-fits (depth room) (slots room) (rowAhead room) ahead-lt) in
+        ap (drop k) advanced-is
+        ∙ onRow-past (slots room) (rowAhead room) (agedRow by (slots room)) (keeps-agedRow by (slots room)) ahead ahead-inside k e
+        ∙ drop-set-lt k copy currentAt (rowAhead room) (omega arith)
+        ∙ onRow-past (slots room) (rowAhead room) (filled (slots room) (rowOf (current room) room)) keeps-filled room (row-inside room F (rowAhead room) ahead-lt) k e
+
+pub advanced-held : (by : ℕ) (room : List ℕ) → advanced (min oldest by) room ≡ advanced by room
+unfolding advanced agedRow onPart
+advanced-held by room = rw (aged-held CED by, aged-held Timing by)
 
 -- ---- a row marked
 module _ (w t : ℕ) (row : List ℕ) where
@@ -251,67 +258,67 @@ rowSettled w t room = cond (moves w t room) (rowAhead room) (current room)
 
 abbrev pub rowTaken : ℕ → ℕ → List ℕ → List ℕ
 rowTaken w t room =
-    cond (moves w t room) (agedRow (slots room) (filled (slots room) (rowOf (current room) room) (rowOf (rowAhead room) room)))
+    cond (moves w t room) (agedRow (risesBy w t room) (slots room) (filled (slots room) (rowOf (current room) room) (rowOf (rowAhead room) room)))
     (rowOf (current room) room)
 
 -- the ring, advanced or not
-module _ (room : List ℕ) (F : InRange room) where
-  reached-facts : (b : Bool) → InRange (cond b (advanced room) room)
-  reached-facts true = advanced-facts room F
+module _ (by : ℕ) (room : List ℕ) (F : InRange room) where
+  reached-facts : (b : Bool) → InRange (cond b (advanced by room) room)
+  reached-facts true = advanced-facts room F by
   reached-facts false = F
 
-  reached-length : (b : Bool) → length (cond b (advanced room) room) ≡ length room
-  reached-length true = advanced-length room F
+  reached-length : (b : Bool) → length (cond b (advanced by room) room) ≡ length room
+  reached-length true = advanced-length room F by
   reached-length false = refl
 
-  reached-header : (b : Bool) (i : ℕ) → i < headerSize → i ≢ currentAt → getD (cond b (advanced room) room) i 0 ≡ getD room i 0
-  reached-header true i h e = advanced-header room F i h e
+  reached-header : (b : Bool) (i : ℕ) → i < headerSize → i ≢ currentAt → getD (cond b (advanced by room) room) i 0 ≡ getD room i 0
+  reached-header true i h e = advanced-header room F by i h e
   reached-header false i h e = refl
 
-  reached-current : (b : Bool) → current (cond b (advanced room) room) ≡ cond b (rowAhead room) (current room)
-  reached-current true = advanced-current room F
+  reached-current : (b : Bool) → current (cond b (advanced by room) room) ≡ cond b (rowAhead room) (current room)
+  reached-current true = advanced-current room F by
   reached-current false = refl
 
-  reached-here : (b : Bool) → rowOf (cond b (rowAhead room) (current room)) (cond b (advanced room) room)
-      ≡ cond b (agedRow (slots room) (filled (slots room) (rowOf (current room) room) (rowOf (rowAhead room) room))) (rowOf (current room) room)
-  reached-here true = advanced-here room F
+  reached-here : (b : Bool) → rowOf (cond b (rowAhead room) (current room)) (cond b (advanced by room) room)
+      ≡ cond b (agedRow by (slots room) (filled (slots room) (rowOf (current room) room) (rowOf (rowAhead room) room))) (rowOf (current room) room)
+  reached-here true = advanced-here room F by
   reached-here false = refl
 
-  reached-there : (b : Bool) (r : ℕ) → r ≢ cond b (rowAhead room) (current room) → rowOf r (cond b (advanced room) room) ≡ rowOf r room
-  reached-there true r e = advanced-there room F r e
+  reached-there : (b : Bool) (r : ℕ) → r ≢ cond b (rowAhead room) (current room) → rowOf r (cond b (advanced by room) room) ≡ rowOf r room
+  reached-there true r e = advanced-there room F by r e
   reached-there false r e = refl
 
-  reached-past : (b : Bool) (k : ℕ) → roomSize (depth room) (slots room) ≤ k → drop k (cond b (advanced room) room) ≡ drop k room
-  reached-past true k h = advanced-past room F k h
+  reached-past : (b : Bool) (k : ℕ) → roomSize (depth room) (slots room) ≤ k → drop k (cond b (advanced by room) room) ≡ drop k room
+  reached-past true k h = advanced-past room F by k h
   reached-past false k h = refl
 
   -- a record of the row that became current, if it did
   taken-record : (b : Bool) (f : Family) (i : ℕ) → i < slots room
-      → recordOf f i (cond b (agedRow (slots room) (filled (slots room) (rowOf (current room) room) (rowOf (rowAhead room) room))) (rowOf (current room) room))
-      ≡ cond b (aged f 1 (recordOf f i (rowOf (current room) room))) (recordOf f i (rowOf (current room) room))
+      → recordOf f i (cond b (agedRow by (slots room) (filled (slots room) (rowOf (current room) room) (rowOf (rowAhead room) room))) (rowOf (current room) room))
+      ≡ cond b (aged f by (recordOf f i (rowOf (current room) room))) (recordOf f i (rowOf (current room) room))
   taken-record true f i h =
-      agedRow-record (slots room) (filled (slots room) (rowOf (current room) room) (rowOf (rowAhead room) room))
+      agedRow-record by (slots room) (filled (slots room) (rowOf (current room) room) (rowOf (rowAhead room) room))
       (filled-length (slots room) (rowOf (current room) room) (rowOf (rowAhead room) room) (length-now room F) (length-ahead room F))
       f i h
-      ∙ ap (aged f 1) (filled-record (slots room) (rowOf (current room) room) (rowOf (rowAhead room) room) (length-now room F) (length-ahead room F) f i h)
+      ∙ ap (aged f by) (filled-record (slots room) (rowOf (current room) room) (rowOf (rowAhead room) room) (length-now room F) (length-ahead room F) f i h)
   taken-record false f i h = refl
 
   -- the head of that row: the mark, week, time and spare byte that it had itself
   taken-head : (b : Bool) (k : ℕ) → k < headSize
-      → getD (cond b (agedRow (slots room) (filled (slots room) (rowOf (current room) room) (rowOf (rowAhead room) room))) (rowOf (current room) room)) k 0
+      → getD (cond b (agedRow by (slots room) (filled (slots room) (rowOf (current room) room) (rowOf (rowAhead room) room))) (rowOf (current room) room)) k 0
       ≡ getD (rowOf (cond b (rowAhead room) (current room)) room) k 0
   taken-head true k h =
-      agedRow-head (slots room) (filled (slots room) (rowOf (current room) room) (rowOf (rowAhead room) room))
+      agedRow-head by (slots room) (filled (slots room) (rowOf (current room) room) (rowOf (rowAhead room) room))
       (filled-length (slots room) (rowOf (current room) room) (rowOf (rowAhead room) room) (length-now room F) (length-ahead room F))
       k h
       ∙ filled-head (slots room) (rowOf (current room) room) (rowOf (rowAhead room) room) (length-now room F) (length-ahead room F) k h
   taken-head false k h = refl
 
   taken-length : (b : Bool)
-      → length (cond b (agedRow (slots room) (filled (slots room) (rowOf (current room) room) (rowOf (rowAhead room) room))) (rowOf (current room) room))
+      → length (cond b (agedRow by (slots room) (filled (slots room) (rowOf (current room) room) (rowOf (rowAhead room) room))) (rowOf (current room) room))
       ≡ rowSize (slots room)
   taken-length true =
-      keeps-agedRow (slots room) (filled (slots room) (rowOf (current room) room) (rowOf (rowAhead room) room))
+      keeps-agedRow by (slots room) (filled (slots room) (rowOf (current room) room) (rowOf (rowAhead room) room))
       (filled-length (slots room) (rowOf (current room) room) (rowOf (rowAhead room) room) (length-now room F) (length-ahead room F))
   taken-length false = length-now room F
 
@@ -321,59 +328,59 @@ module _ (room : List ℕ) (F : InRange room) where
 
 module _ (w t : ℕ) (room : List ℕ) (F : InRange room) where
   abbrev reached : List ℕ
-  reached = cond (moves w t room) (advanced room) room
+  reached = cond (moves w t room) (advanced (risesBy w t room) room) room
 
   pub rowSettled-lt : rowSettled w t room < depth room
-  rowSettled-lt = settled-lt room F (moves w t room)
+  rowSettled-lt = settled-lt (risesBy w t room) room F (moves w t room)
 
   pub rowTaken-length : length (rowTaken w t room) ≡ rowSize (slots room)
-  rowTaken-length = taken-length room F (moves w t room)
+  rowTaken-length = taken-length (risesBy w t room) room F (moves w t room)
 
   pub rowTaken-record : (f : Family) (i : ℕ) → i < slots room
-      → recordOf f i (rowTaken w t room) ≡ cond (moves w t room) (aged f 1 (recordOf f i (rowOf (current room) room))) (recordOf f i (rowOf (current room) room))
-  rowTaken-record f i h = taken-record room F (moves w t room) f i h
+      → recordOf f i (rowTaken w t room) ≡ cond (moves w t room) (aged f (risesBy w t room) (recordOf f i (rowOf (current room) room))) (recordOf f i (rowOf (current room) room))
+  rowTaken-record f i h = taken-record (risesBy w t room) room F (moves w t room) f i h
 
   pub rowTaken-head : (k : ℕ) → k < headSize → getD (rowTaken w t room) k 0 ≡ getD (rowOf (rowSettled w t room) room) k 0
-  rowTaken-head k h = taken-head room F (moves w t room) k h
+  rowTaken-head k h = taken-head (risesBy w t room) room F (moves w t room) k h
 
   pub settled-length : length (settled w t room) ≡ length room
   unfolding settled
-  settled-length = currentMarked-length w t reached (reached-facts room F (moves w t room)) ∙ reached-length room F (moves w t room)
+  settled-length = currentMarked-length w t reached (reached-facts (risesBy w t room) room F (moves w t room)) ∙ reached-length (risesBy w t room) room F (moves w t room)
 
   pub settled-header : (i : ℕ) → i < headerSize → i ≢ currentAt → getD (settled w t room) i 0 ≡ getD room i 0
   unfolding settled
   settled-header i h e =
-      currentMarked-header w t reached (reached-facts room F (moves w t room)) i h ∙ reached-header room F (moves w t room) i h e
+      currentMarked-header w t reached (reached-facts (risesBy w t room) room F (moves w t room)) i h ∙ reached-header (risesBy w t room) room F (moves w t room) i h e
 
   pub settled-current : current (settled w t room) ≡ rowSettled w t room
   unfolding settled
   settled-current =
-      currentMarked-header w t reached (reached-facts room F (moves w t room)) currentAt (omega arith) ∙ reached-current room F (moves w t room)
+      currentMarked-header w t reached (reached-facts (risesBy w t room) room F (moves w t room)) currentAt (omega arith) ∙ reached-current (risesBy w t room) room F (moves w t room)
 
   pub settled-facts : InRange (settled w t room)
   unfolding settled
-  settled-facts = currentMarked-facts w t reached (reached-facts room F (moves w t room))
+  settled-facts = currentMarked-facts w t reached (reached-facts (risesBy w t room) room F (moves w t room))
 
   pub settled-here : rowOf (rowSettled w t room) (settled w t room) ≡ markedAt w t (rowTaken w t room)
   unfolding settled
   settled-here =
-      ap (λ (c : ℕ). rowOf c (currentMarked w t reached)) (sym (reached-current room F (moves w t room)))
-      ∙ currentMarked-here w t reached (reached-facts room F (moves w t room))
-      ∙ ap (λ (c : ℕ). markedAt w t (rowOf c reached)) (reached-current room F (moves w t room))
-      ∙ ap (markedAt w t) (reached-here room F (moves w t room))
+      ap (λ (c : ℕ). rowOf c (currentMarked w t reached)) (sym (reached-current (risesBy w t room) room F (moves w t room)))
+      ∙ currentMarked-here w t reached (reached-facts (risesBy w t room) room F (moves w t room))
+      ∙ ap (λ (c : ℕ). markedAt w t (rowOf c reached)) (reached-current (risesBy w t room) room F (moves w t room))
+      ∙ ap (markedAt w t) (reached-here (risesBy w t room) room F (moves w t room))
 
   pub settled-there : (r : ℕ) → r ≢ rowSettled w t room → rowOf r (settled w t room) ≡ rowOf r room
   unfolding settled
   settled-there r e =
-      currentMarked-there w t reached (reached-facts room F (moves w t room)) r (λ q. e (q ∙ reached-current room F (moves w t room)))
-      ∙ reached-there room F (moves w t room) r e
+      currentMarked-there w t reached (reached-facts (risesBy w t room) room F (moves w t room)) r (λ q. e (q ∙ reached-current (risesBy w t room) room F (moves w t room)))
+      ∙ reached-there (risesBy w t room) room F (moves w t room) r e
 
   pub settled-past : (k : ℕ) → roomSize (depth room) (slots room) ≤ k → drop k (settled w t room) ≡ drop k room
   unfolding settled
   settled-past k h =
-      currentMarked-past w t reached (reached-facts room F (moves w t room)) k
-      (rw (reached-header room F (moves w t room) depthAt (omega arith) (omega arith), reached-header room F (moves w t room) slotsAt (omega arith) (omega arith)) h)
-      ∙ reached-past room F (moves w t room) k h
+      currentMarked-past w t reached (reached-facts (risesBy w t room) room F (moves w t room)) k
+      (rw (reached-header (risesBy w t room) room F (moves w t room) depthAt (omega arith) (omega arith), reached-header (risesBy w t room) room F (moves w t room) slotsAt (omega arith) (omega arith)) h)
+      ∙ reached-past (risesBy w t room) room F (moves w t room) k h
 
 -- ---- a word in a row
 -- the place chosen depends on the records of the family alone

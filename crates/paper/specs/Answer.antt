@@ -10,11 +10,11 @@ use Rattle.paper.specs.Satellite.{isSatellite}
 use Rattle.paper.specs.Word.{wordBytes}
 use Rattle.paper.specs.Record.{Family, count, dataOf}
 use Rattle.paper.specs.Room.{roomSize}
-use Rattle.paper.specs.Store.{sizesAllowed, isStore}
+use Rattle.paper.specs.Store.{sizesAllowed, ruleKnown, isStore}
 use Rattle.paper.specs.Fresh.{fresh}
-use Rattle.paper.specs.Feed.{fed}
+use Rattle.paper.specs.Feed.{comesEarlier, fed}
 use Rattle.paper.specs.Tag.{kindKnown, familyOf, copAllowed, lengthAllowed, statusKnown, statusAdds, thirtyBefore, candidateRecord, hasCandidate, givenAgrees, tagged, takenBy}
-use Rattle.paper.specs.Ask.{answeringRow, answeringRecord, someEnough, timeBefore}
+use Rattle.paper.specs.Ask.{answeringRow, answeringRecord, someEnough, ageUnknown, timeBefore}
 use Rattle.paper.specs.Reset.{reset}
 
 -- STORE 14.3: the room where the number is not 0
@@ -26,28 +26,30 @@ abbrev pub partFor : ℕ → List ℕ → List ℕ
 partFor k part = cond (eqb k 0) part []
 
 -- STORE 14.2, fresh: 1, 2
-unfoldable pub freshNumber : ℕ → ℕ → List ℕ → ℕ
-freshNumber d n room = unless (sizesAllowed d n) 1 (unless (leb (roomSize d n) (length room)) 2 0)
+unfoldable pub freshNumber : ℕ → ℕ → ℕ → List ℕ → ℕ
+freshNumber d n rule room = unless (sizesAllowed d n && ruleKnown rule) 1 (unless (leb (roomSize d n) (length room)) 2 0)
 
-abbrev pub freshAnswer : ℕ → ℕ → List ℕ → Answer
-freshAnswer d n room = answer (freshNumber d n room) []
+abbrev pub freshAnswer : ℕ → ℕ → ℕ → List ℕ → Answer
+freshAnswer d n rule room = answer (freshNumber d n rule room) []
 
-unfoldable pub freshRoom : ℕ → ℕ → List ℕ → List ℕ
-freshRoom d n room = roomFor (freshNumber d n room) (fresh d n room) room
+unfoldable pub freshRoom : ℕ → ℕ → ℕ → List ℕ → List ℕ
+freshRoom d n rule room = roomFor (freshNumber d n rule room) (fresh d n rule room) room
 
--- STORE 14.2, word: 3, 4, 5, 8, 9
-unfoldable pub feedNumber : List ℕ → ℕ → ℕ → ℕ → List ℕ → ℕ
-feedNumber word sat t band room =
+-- STORE 14.2, word: 3, 4, 5, 8, 9, 15
+unfoldable pub feedNumber : List ℕ → ℕ → ℕ → ℕ → ℕ → List ℕ → ℕ
+feedNumber word sat w t band room =
     unless (isStore room) 3
-    (unless (isSatellite sat) 4 (unless (isTime t) 5 (unless (eqb (length word) wordBytes) 8 (unless (leb band 1) 9 0))))
+    (unless (isSatellite sat) 4
+    (unless (isTime t) 5
+    (unless (eqb (length word) wordBytes) 8 (unless (leb band 1) 9 (unless (not (comesEarlier w (startOf t) room)) 15 0)))))
 
-abbrev pub feedAnswer : List ℕ → ℕ → ℕ → ℕ → List ℕ → Answer
-feedAnswer word sat t band room = answer (feedNumber word sat t band room) []
+abbrev pub feedAnswer : List ℕ → ℕ → ℕ → ℕ → ℕ → List ℕ → Answer
+feedAnswer word sat w t band room = answer (feedNumber word sat w t band room) []
 
 -- STORE 10.1: of the word's time its subframe T is used
 unfoldable pub feedRoom : List ℕ → ℕ → ℕ → ℕ → ℕ → List ℕ → List ℕ
 feedRoom word sat w t band room =
-    roomFor (feedNumber word sat t band room) (fed w (startOf t) sat band word room) room
+    roomFor (feedNumber word sat w t band room) (fed w (startOf t) sat band word room) room
 
 -- STORE 14.2, tag: 3, 4, 5, 6, and what comes later
 abbrev pub untilStart : ℕ → ℕ → List ℕ → ℕ → ℕ
@@ -98,13 +100,14 @@ candidateData sat kind cop w t room =
     partFor (candidateNumber sat kind cop w t room)
     (dataOf (familyOf kind) (candidateRecord (familyOf kind) sat w t room))
 
--- STORE 14.2, asking: 3, 4, 12, 7
+-- STORE 14.2, asking: 3, 4, 12, 24, 7
 unfoldable pub askNumber : Family → ℕ → List ℕ → ℕ
 askNumber f sat room =
     unless (isStore room) 3
     (unless (isSatellite sat) 4
     (unless (someEnough f sat room) 12
-    (unless (eqb (number (timeBefore f (answeringRow f sat room) (answeringRecord f sat room))) 0) 7 0)))
+    (unless (not (ageUnknown f sat room)) 24
+    (unless (eqb (number (timeBefore f (answeringRow f sat room) (answeringRecord f sat room))) 0) 7 0))))
 
 -- STORE 12.3: beside 0 the count and the time
 unfoldable pub askAnswer : Family → ℕ → List ℕ → Answer

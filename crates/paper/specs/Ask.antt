@@ -6,8 +6,8 @@ use lib.Dec.{leb, ltb, eqb}
 use lib.IntN.{pos, negℤ}
 use Rattle.paper.specs.Number.{Answer}
 use Rattle.paper.specs.Parts.{first}
-use Rattle.paper.specs.Record.{Family, satellite, count, agesOf, least}
-use Rattle.paper.specs.Room.{depth, slots, current, rowOf, week, time, recordOf}
+use Rattle.paper.specs.Record.{Family, satellite, count, agesOf, oldest, least}
+use Rattle.paper.specs.Room.{depth, slots, current, byTime, rowOf, week, time, recordOf}
 use Rattle.paper.specs.Time.{addSubframes}
 
 -- STORE 12.1: the count that answers
@@ -45,6 +45,10 @@ answeringRecord f sat room =
 -- STORE 12.1: where no record has enough it is 12; the test that one has
 unfoldable pub someEnough : Family → ℕ → List ℕ → Bool
 someEnough f sat room = ltb (stepsBack f sat room) (depth room)
+
+-- STORE 12.5: under rule 1, the least age of the record that answers is the greatest there is, and so says nothing
+unfoldable pub ageUnknown : Family → ℕ → List ℕ → Bool
+ageUnknown f sat room = byTime room && eqb (least (agesOf f (answeringRecord f sat room))) oldest
 
 -- STORE 12.3: the row's subframe less 30 s for each of the record's least age
 unfoldable pub timeBefore : Family → List ℕ → List ℕ → Answer

@@ -7,8 +7,8 @@ use Rattle.paper.specs.Record.{Family}
 use Rattle.paper.specs.Answer.{freshAnswer, freshRoom, feedAnswer, feedRoom, tagAnswer, tagRoom, candidateAnswer, candidateData, askAnswer, askData, resetAnswer, resetRoom}
 
 pub data Call : Type 0 where
-  -- D, N
-  freshCall : ℕ → ℕ → Call
+  -- D, N, rule
+  freshCall : ℕ → ℕ → ℕ → Call
   -- word, satellite, week, time, band
   feedCall : List ℕ → ℕ → ℕ → ℕ → ℕ → Call
   -- satellite, kind, COP, length, status, week, time, given data, verdict
@@ -21,8 +21,8 @@ pub data Call : Type 0 where
 
 -- what a call answers on a room
 unfoldable pub answerTo : Call → List ℕ → Answer
-answerTo (freshCall d n) room = freshAnswer d n room
-answerTo (feedCall word sat w t band) room = feedAnswer word sat t band room
+answerTo (freshCall d n rule) room = freshAnswer d n rule room
+answerTo (feedCall word sat w t band) room = feedAnswer word sat w t band room
 answerTo (tagCall sat kind cop l status w t given verdict) room =
     tagAnswer sat kind cop l status w t given verdict room
 answerTo (candidateCall sat kind cop w t) room = candidateAnswer sat kind cop w t room
@@ -31,7 +31,7 @@ answerTo resetCall room = resetAnswer room
 
 -- the part of the room that a call hands out
 unfoldable pub partTo : Call → List ℕ → List ℕ
-partTo (freshCall d n) room = []
+partTo (freshCall d n rule) room = []
 partTo (feedCall word sat w t band) room = []
 partTo (tagCall sat kind cop l status w t given verdict) room = []
 partTo (candidateCall sat kind cop w t) room = candidateData sat kind cop w t room
@@ -40,7 +40,7 @@ partTo resetCall room = []
 
 -- the room after a call
 unfoldable pub roomAfter : Call → List ℕ → List ℕ
-roomAfter (freshCall d n) room = freshRoom d n room
+roomAfter (freshCall d n rule) room = freshRoom d n rule room
 roomAfter (feedCall word sat w t band) room = feedRoom word sat w t band room
 roomAfter (tagCall sat kind cop l status w t given verdict) room =
     tagRoom sat kind cop l status w t given verdict room

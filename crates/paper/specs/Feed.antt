@@ -7,7 +7,8 @@ use lib.Dec.{leb, ltb, eqb}
 use Rattle.paper.specs.Big.{put16, put32}
 use Rattle.paper.specs.Parts.{part, onPart}
 use Rattle.paper.specs.Record.{Family, CED, Timing, size, satellite, agesOf, aged, greatest}
-use Rattle.paper.specs.Room.{currentAt, markAt, weekAt, timeAt, headSize, slotSize, rowSize, depth, slots, current, rowAt, rowOf, marked, isAt, recordAt, recordOf, eachRecord}
+use Rattle.paper.specs.Room.{currentAt, markAt, weekAt, timeAt, headSize, slotSize, rowSize, depth, slots, current, byTime, rowAt, rowOf, week, time, marked, isAt, recordAt, recordOf, eachRecord}
+use Rattle.paper.specs.Time.{isEarlier, goneBy}
 use Rattle.paper.specs.Word.{fedRecord}
 
 -- STORE 10.3: the next row; row 0 is behind the last
@@ -18,23 +19,35 @@ nextRow d c = cond (ltb (c + 1) d) (c + 1) 0
 unfoldable pub moves : ℕ → ℕ → List ℕ → Bool
 moves w t room = let row = rowOf (current room) room in marked row && not (isAt w t row)
 
+-- STORE 10.9: under rule 1, the current row is marked with a later subframe than T
+unfoldable pub comesEarlier : ℕ → ℕ → List ℕ → Bool
+comesEarlier w t room =
+    let row = rowOf (current room) room in
+    byTime room && marked row && isEarlier w t (week row) (time row)
+
+-- STORE 10.3: by how much ages rise when the ring moves to T: by one, or under rule 1 by the subframes gone by
+unfoldable pub risesBy : ℕ → ℕ → List ℕ → ℕ
+risesBy w t room =
+    let row = rowOf (current room) room in
+    cond (byTime room) (goneBy w t (week row) (time row)) 1
+
 -- STORE 10.3: the slots of the row at `from`, copied to the row at `to`
 unfoldable pub copied : ℕ → ℕ → ℕ → List ℕ → List ℕ
 copied n from to room =
     let records = part (from + headSize) (n * slotSize) room in
     onPart (λ (_ : List ℕ). records) (to + headSize) (n * slotSize) room
 
--- STORE 10.3: every age of the row one more
-unfoldable pub agedRow : ℕ → List ℕ → List ℕ
-agedRow n row = let c = eachRecord CED n (aged CED 1) row in eachRecord Timing n (aged Timing 1) c
+-- STORE 10.3: every age of the row so much more
+unfoldable pub agedRow : ℕ → ℕ → List ℕ → List ℕ
+agedRow by n row = let c = eachRecord CED n (aged CED by) row in eachRecord Timing n (aged Timing by) c
 
--- STORE 10.3: the next row filled by the copy, current, and aged
-unfoldable pub advanced : List ℕ → List ℕ
-advanced room =
+-- STORE 10.3: the next row filled by the copy, current, and so much older
+unfoldable pub advanced : ℕ → List ℕ → List ℕ
+advanced by room =
     let n = slots room in
     let to = nextRow (depth room) (current room) in
     let c = copied n (rowAt n (current room)) (rowAt n to) room in
-    onPart (agedRow n) (rowAt n to) (rowSize n) (set c currentAt to)
+    onPart (agedRow by n) (rowAt n to) (rowSize n) (set c currentAt to)
 
 -- a row marked T
 unfoldable pub markedAt : ℕ → ℕ → List ℕ → List ℕ
@@ -46,7 +59,7 @@ currentMarked w t room = onPart (markedAt w t) (rowAt (slots room) (current room
 
 -- the ring before the records of the current row are chosen
 unfoldable pub settled : ℕ → ℕ → List ℕ → List ℕ
-settled w t room = let r = cond (moves w t room) (advanced room) room in currentMarked w t r
+settled w t room = let r = cond (moves w t room) (advanced (risesBy w t room) room) room in currentMarked w t r
 
 -- STORE 10.5: the key of a record
 unfoldable pub key : Family → ℕ → List ℕ → ℕ

@@ -27,7 +27,7 @@ unfoldable pub numbersTests : Family → ℕ → List ℕ → ℕ
 numbersTests CED sat bytes = unless (oneIssue bytes) 21 (unless (eqb (svidOf bytes) sat) 22 0)
 numbersTests Timing sat bytes = 0
 
--- STORE 14.2, reading numbers: asking's 3, 4, 12, 7, and then those. What is not authenticated is not looked into
+-- STORE 14.2, reading numbers: asking's 3, 4, 12, 24, 7, and then those. What is not authenticated is not looked into
 unfoldable pub numbersNumber : Family → ℕ → List ℕ → ℕ
 numbersNumber f sat room =
     let k = askNumber f sat room in

@@ -16,7 +16,7 @@ mostRows = 16
 abbrev pub mostSlots : ℕ
 mostSlots = 36
 
--- STORE 7.3, D, N, the current row and five zeros: where each starts, behind the one before it
+-- STORE 7.3, D, N, the current row, the ageing rule and four zeros: where each starts, behind the one before it
 abbrev pub depthAt : ℕ
 depthAt = 0
 
@@ -26,12 +26,15 @@ slotsAt = depthAt + 1
 abbrev pub currentAt : ℕ
 currentAt = slotsAt + 1
 
+abbrev pub ruleAt : ℕ
+ruleAt = currentAt + 1
+
 abbrev pub zerosAt : ℕ
-zerosAt = currentAt + 1
+zerosAt = ruleAt + 1
 
 -- the bytes of the header
 abbrev pub headerSize : ℕ
-headerSize = zerosAt + 5
+headerSize = zerosAt + 4
 
 -- STORE 7.4, a mark, a week, a time and a spare byte: where each starts in the row
 abbrev pub markAt : ℕ
@@ -79,6 +82,17 @@ slots room = getD room slotsAt 0
 
 abbrev pub current : List ℕ → ℕ
 current room = getD room currentAt 0
+
+-- STORE 7.7: the ageing rule
+abbrev pub rule : List ℕ → ℕ
+rule room = getD room ruleAt 0
+
+-- STORE 7.7: under rule 1 ages count time, under 0 the moves of the ring
+abbrev pub timeRule : ℕ
+timeRule = 1
+
+abbrev pub byTime : List ℕ → Bool
+byTime room = eqb (rule room) timeRule
 
 -- where row r starts
 abbrev pub rowAt : ℕ → ℕ → ℕ

@@ -7,13 +7,17 @@ use lib.Dec.{leb, ltb, eqb}
 use Rattle.paper.specs.Big.{be32}
 use Rattle.paper.specs.Parts.{part, allParts}
 use Rattle.paper.specs.Record.{Family, CED, Timing, size, satellite, count, lastWeight}
-use Rattle.paper.specs.Room.{mostRows, mostSlots, zerosAt, headerSize, headSize, slotSize, base, rowSize, roomSize, depth, slots, current, mark, week, time, spare}
+use Rattle.paper.specs.Room.{mostRows, mostSlots, zerosAt, headerSize, headSize, slotSize, base, rowSize, roomSize, depth, slots, current, timeRule, rule, mark, week, time, spare}
 use Rattle.paper.specs.Satellite.{mostSatellites}
 use Rattle.paper.specs.Time.{lastStart, isStart}
 
 -- STORE 7.1: the test that D and N are in range
 abbrev pub sizesAllowed : ℕ → ℕ → Bool
 sizesAllowed d n = leb 1 d && leb d mostRows && leb 1 n && leb n mostSlots
+
+-- STORE 7.7: the test that it is a rule
+abbrev pub ruleKnown : ℕ → Bool
+ruleKnown r = leb r timeRule
 
 -- STORE 8.1: D, N and the current row are in range
 unfoldable pub headerInRange : List ℕ → Bool
@@ -29,9 +33,9 @@ pub record InRange (room : List ℕ) : Type 0 where
   pub inRing : current room < depth room
   pub fits : roomSize (depth room) (slots room) ≤ length room
 
--- STORE 8.3: the five zeros of the header
-unfoldable pub headerZeros : List ℕ → Bool
-headerZeros room = eqb (getD room zerosAt 0) 0 && eqb (be32 room (zerosAt + 1)) 0
+-- STORE 8.3: the rule and the four zeros of the header
+unfoldable pub headerRest : List ℕ → Bool
+headerRest room = ruleKnown (rule room) && eqb (be32 room zerosAt) 0
 
 -- STORE 8.7: no satellite above the greatest; in a blank row any satellite is one too many
 unfoldable pub satelliteAllowed : ℕ → List ℕ → Bool
@@ -81,6 +85,6 @@ unfoldable pub isStore : List ℕ → Bool
 isStore room =
     leb headerSize (length room)
     && headerInRange room
-    && headerZeros room
+    && headerRest room
     && leb (roomSize (depth room) (slots room)) (length room)
     && allParts (rowAllowed (slots room)) (rowSize (slots room)) (depth room) headerSize room

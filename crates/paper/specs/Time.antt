@@ -1,10 +1,10 @@
 -- STORE 3: times, a week and a time of week.
 use Prim.Native.Nat.{ℕ, _+_, _-_, _*_, _/_, _%_}
-use mathlib.Core.Bool.{Bool, cond, _&&_}
+use mathlib.Core.Bool.{Bool, cond, not, _&&_}
 use mathlib.Core.List.{[], _∷_}
 use lib.Dec.{leb, ltb, eqb}
 use lib.IntN.{ℤ, pos, negsuc, negℤ, natAbs, _+ℤ_, _-ℤ_, _*ℤ_}
-use lib.Signed.{leZ, quotZ}
+use lib.Signed.{leZ, nonNeg, quotZ}
 use Rattle.paper.specs.Number.{Answer, done, refused}
 
 -- the seconds of a week
@@ -86,3 +86,16 @@ difference w t w' t' =
     cond (isTime t && isTime t')
     (subframes ((pos w -ℤ pos w') *ℤ pos weekSubframes +ℤ quotZ (pos t -ℤ pos t') (pos subframeSeconds)))
     (noDifference 5)
+
+-- the subframes that a difference says; 0 where it is refused
+abbrev pub subframesOf : Difference → ℤ
+subframesOf (subframes k) = k
+subframesOf (noDifference why) = pos 0
+
+-- STORE 10.9: week w, time t is earlier than week w', time t' where the difference is negative
+unfoldable pub isEarlier : ℕ → ℕ → ℕ → ℕ → Bool
+isEarlier w t w' t' = not (nonNeg (subframesOf (difference w t w' t')))
+
+-- STORE 10.3: the subframes gone by from week w', time t' to week w, time t, which is not earlier
+unfoldable pub goneBy : ℕ → ℕ → ℕ → ℕ → ℕ
+goneBy w t w' t' = natAbs (subframesOf (difference w t w' t'))

@@ -44,10 +44,10 @@ pub exported-fresh-is-step :
     (e : AtExit (endedOf 1 fresh-kinds.ps fresh-kinds.r) κs)
     → fresh.Post κs a r e
     → let room = a .0 .now in
-    let call = freshCall (a .1 .0) (a .1 .1 .0) in
+    let call = freshCall (a .1 .0) (a .1 .1 .0) (a .1 .1 .1 .0) in
     (r ≡ number (answerTo call room)) × (e .0 .now ≡ roomAfter call room)
 exported-fresh-is-step κs a r e p =
-    let s = fresh-step _ _ (a .0 .now) in
+    let s = fresh-step _ _ _ (a .0 .now) in
     (p .0 ∙ ap number (sym (s .0)), p .1 ∙ sym (s .1))
 
 pub exported-feed-is-step :

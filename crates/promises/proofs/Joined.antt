@@ -40,10 +40,11 @@ pub fresh-is-step :
     → let room = a .0 .now in
     let d = a .1 .0 in
     let n = a .1 .1 .0 in
-    let call = freshCall d n in
+    let rule = a .1 .1 .1 .0 in
+    let call = freshCall d n rule in
     (replyAnswer r ≡ answerTo call room) × (e .0 .now ≡ roomAfter call room)
 fresh-is-step κs a r e p =
-    let s = fresh-step _ _ (a .0 .now) in
+    let s = fresh-step _ _ _ (a .0 .now) in
     (p .0 ∙ sym (s .0), p .1 ∙ sym (s .1))
 
 pub feed-is-step :

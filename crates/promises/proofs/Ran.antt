@@ -64,7 +64,7 @@ pub record Lent (k : ℕ) (before after lent left : List ℕ) : Type 0 where
 pub data Did (call : Call) (k : ℕ) (before after : List ℕ) : Type 1 where
   freshDid : (κs : Lfts 1) (a : Dens κs fresh-kinds.ps) (r : resT fresh-kinds.r κs .Denot) (e : AtExit (endedOf 1 fresh-kinds.ps fresh-kinds.r) κs)
       → fresh.Post κs a r e
-      → freshCall (a .1 .0) (a .1 .1 .0) ≡ call
+      → freshCall (a .1 .0) (a .1 .1 .0) (a .1 .1 .1 .0) ≡ call
       → Lent k before after (a .0 .now) (e .0 .now) → Did call k before after
   feedDid : (κs : Lfts 2) (a : Dens κs feed-kinds.ps) (r : resT feed-kinds.r κs .Denot) (e : AtExit (endedOf 2 feed-kinds.ps feed-kinds.r) κs)
       → feed.Post κs a r e
@@ -82,7 +82,7 @@ pub data Did (call : Call) (k : ℕ) (before after : List ℕ) : Type 1 where
       → Lent k before after (a .0 .now) (e .0 .now) → Did call k before after
   cFreshDid : (κs : Lfts 1) (a : Dens κs c-fresh-kinds.ps) (r : resT c-fresh-kinds.r κs .Denot) (e : AtExit (endedOf 1 c-fresh-kinds.ps c-fresh-kinds.r) κs)
       → c-fresh.Post κs a r e
-      → freshCall (a .1 .0) (a .1 .1 .0) ≡ call
+      → freshCall (a .1 .0) (a .1 .1 .0) (a .1 .1 .1 .0) ≡ call
       → Lent k before after (a .0 .now) (e .0 .now) → Did call k before after
   cFeedDid : (κs : Lfts 2) (a : Dens κs c-feed-kinds.ps) (r : resT c-feed-kinds.r κs .Denot) (e : AtExit (endedOf 2 c-feed-kinds.ps c-feed-kinds.r) κs)
       → c-feed.Post κs a r e
@@ -238,21 +238,23 @@ record Starts (start : List ℕ) : Type 0 where
   room : List ℕ
   d : ℕ
   n : ℕ
-  ok : number (answerTo (freshCall d n) room) ≡ 0
-  made : start ≡ roomAfter (freshCall d n) room
+  rule : ℕ
+  ok : number (answerTo (freshCall d n rule) room) ≡ 0
+  made : start ≡ roomAfter (freshCall d n rule) room
 
-starts : (d n : ℕ) (lent left behind start : List ℕ) → number (answerTo (freshCall d n) lent) ≡ 0 → left ≡ roomAfter (freshCall d n) lent
+starts : (d n rule : ℕ) (lent left behind start : List ℕ) → number (answerTo (freshCall d n rule) lent) ≡ 0 → left ≡ roomAfter (freshCall d n rule) lent
     → left ++ behind ≡ start → Starts start
 unfolding answerTo
-starts d n lent left behind start ok e s =
+starts d n rule lent left behind start ok e s =
     record {
       room = lent ++ behind;
       d = d;
       n = n;
-      ok = ap number (sym (same-answer k (lent ++ behind) inside (freshCall d n) fits) ∙ ap (answerTo (freshCall d n)) first) ∙ ok;
+      rule = rule;
+      ok = ap number (sym (same-answer k (lent ++ behind) inside (freshCall d n rule) fits) ∙ ap (answerTo (freshCall d n rule)) first) ∙ ok;
       made =
           sym s
-          ∙ ap (λ (x : List ℕ). x ++ behind) (e ∙ ap (roomAfter (freshCall d n)) (sym first) ∙ same-room k (lent ++ behind) inside (freshCall d n) fits)
+          ∙ ap (λ (x : List ℕ). x ++ behind) (e ∙ ap (roomAfter (freshCall d n rule)) (sym first) ∙ same-room k (lent ++ behind) inside (freshCall d n rule) fits)
           ∙ whole;
     }
   where
@@ -266,21 +268,21 @@ starts d n lent left behind start ok e s =
     first = take-at lent behind k refl
 
     fits : roomSize d n ≤ k
-    fits = fresh-allowed d n lent (sym (number-answer (freshNumber d n lent) []) ∙ ok) .1
+    fits = fresh-allowed d n rule lent (sym (number-answer (freshNumber d n rule lent) []) ∙ ok) .1
 
-    past : drop k (roomAfter (freshCall d n) (lent ++ behind)) ≡ behind
-    past = call-untouched (freshCall d n) (lent ++ behind) k fits ∙ drop-at lent behind k refl
+    past : drop k (roomAfter (freshCall d n rule) (lent ++ behind)) ≡ behind
+    past = call-untouched (freshCall d n rule) (lent ++ behind) k fits ∙ drop-at lent behind k refl
 
-    whole : take k (roomAfter (freshCall d n) (lent ++ behind)) ++ behind ≡ roomAfter (freshCall d n) (lent ++ behind)
-    whole = ap (λ (x : List ℕ). take k (roomAfter (freshCall d n) (lent ++ behind)) ++ x) (sym past) ∙ take-append-drop k (roomAfter (freshCall d n) (lent ++ behind))
+    whole : take k (roomAfter (freshCall d n rule) (lent ++ behind)) ++ behind ≡ roomAfter (freshCall d n rule) (lent ++ behind)
+    whole = ap (λ (x : List ℕ). take k (roomAfter (freshCall d n rule) (lent ++ behind)) ++ x) (sym past) ∙ take-append-drop k (roomAfter (freshCall d n rule) (lent ++ behind))
 
 began-starts : (start : List ℕ) → Began start → Starts start
 began-starts start (freshBegan κs a r e p q behind s) =
     let is = fresh-is-step κs a r e p in
-    starts _ _ (a .0 .now) (e .0 .now) behind start (ap number (sym (is .0) ∙ ap replyAnswer q)) (is .1) s
+    starts _ _ _ (a .0 .now) (e .0 .now) behind start (ap number (sym (is .0) ∙ ap replyAnswer q)) (is .1) s
 began-starts start (cFreshBegan κs a r e p q behind s) =
     let is = exported-fresh-is-step κs a r e p in
-    starts _ _ (a .0 .now) (e .0 .now) behind start (sym (is .0) ∙ q) (is .1) s
+    starts _ _ _ (a .0 .now) (e .0 .now) behind start (sym (is .0) ∙ q) (is .1) s
 
 pub demand-3-of-the-code :
     -- a fresh call that ran and was answered 0
@@ -295,10 +297,10 @@ pub demand-3-of-the-code :
     → Earned (place .family) (at now place) (tags start (history start calls) place)
 demand-3-of-the-code start began calls now ran place inside =
     let s = began-starts start began in
-    let first : List ℕ = roomAfter (freshCall (s .d) (s .n)) (s .room) in
+    let first : List ℕ = roomAfter (freshCall (s .d) (s .n) (s .rule)) (s .room) in
     let whole : List Call = history start calls in
     let at-run : Inside (run first whole) place → Earned (place .family) (at (run first whole) place) (tags first whole place) =
-    demand-3 (s .room) (s .d) (s .n) (s .ok) whole place in
+    demand-3 (s .room) (s .d) (s .n) (s .rule) (s .ok) whole place in
     let of-start : Inside (run start whole) place → Earned (place .family) (at (run start whole) place) (tags start whole place) =
     subst (λ z. Inside (run z whole) place → Earned (place .family) (at (run z whole) place) (tags z whole place)) (sym (s .made)) at-run in
     subst (λ x. Inside x place → Earned (place .family) (at x place) (tags start whole place)) (sym (ran-is-run start calls now ran)) of-start inside

@@ -3,6 +3,7 @@ use native.Mathlib.Omega.{arith}
 use mathlib.Core.Path.{_≡_, refl, sym, ap, _∙_}
 use mathlib.Core.List.{List, []}
 use mathlib.Core.Bool.{cond}
+use mathlib.Core.Logic.{_≢_}
 use lib.Dec.{eqb, eqb·suc-zero}
 use Prim.Native.Nat.{ℕ, zero, suc, _+_, _≤_}
 use Rattle.paper.specs.Number.{Answer, done, refused, number, values, answer}
@@ -10,7 +11,7 @@ use Rattle.paper.specs.Answer.{roomFor, partFor}
 use Rattle.refusals.specs.Reply.{numberOf, replyAnswer}
 use Rattle.refusals.specs.declared.Refusal.{Refusal}
 use Rattle.refusals.specs.declared.Refusal.the-variants.{Sizes, TooShort, NotAStore, NoSatellite, NoTime, NotAStart, OutOfTime, NotAllowed}
-use Rattle.refusals.specs.declared.Refusal.the-variants.{Unknown, NoCandidate, OtherData, NotEnough, Dummy, VerdictNo, StatusAddsNothing}
+use Rattle.refusals.specs.declared.Refusal.the-variants.{Unknown, NoCandidate, OtherData, NotEnough, Earlier, Dummy, VerdictNo, StatusAddsNothing, AgeUnknown}
 use Rattle.refusals.specs.declared.Reply.{Reply}
 use Rattle.refusals.specs.declared.Reply.the-variants.{Done, Refused}
 
@@ -29,9 +30,11 @@ refusalOf n =
     (cond (eqb n 10) NoCandidate
     (cond (eqb n 11) OtherData
     (cond (eqb n 12) NotEnough
+    (cond (eqb n 15) Earlier
     (cond (eqb n 16) Dummy
     (cond (eqb n 17) VerdictNo
-    StatusAddsNothing))))))))))))))
+    (cond (eqb n 18) StatusAddsNothing
+    AgeUnknown))))))))))))))))
 
 back : (why : Refusal) → refusalOf (numberOf why) ≡ why
 unfolding refusalOf
@@ -47,9 +50,11 @@ back Unknown = refl
 back NoCandidate = refl
 back OtherData = refl
 back NotEnough = refl
+back Earlier = refl
 back Dummy = refl
 back VerdictNo = refl
 back StatusAddsNothing = refl
+back AgeUnknown = refl
 
 -- two refusals with one number are one
 pub same-refusal : (a b : Refusal) → numberOf a ≡ numberOf b → a ≡ b
@@ -69,27 +74,31 @@ above-zero Unknown = omega arith
 above-zero NoCandidate = omega arith
 above-zero OtherData = omega arith
 above-zero NotEnough = omega arith
+above-zero Earlier = omega arith
 above-zero Dummy = omega arith
 above-zero VerdictNo = omega arith
 above-zero StatusAddsNothing = omega arith
+above-zero AgeUnknown = omega arith
 
--- and none has a number above 18
-pub at-most : (why : Refusal) → numberOf why ≤ 18
-at-most Sizes = omega arith
-at-most TooShort = omega arith
-at-most NotAStore = omega arith
-at-most NoSatellite = omega arith
-at-most NoTime = omega arith
-at-most NotAStart = omega arith
-at-most OutOfTime = omega arith
-at-most NotAllowed = omega arith
-at-most Unknown = omega arith
-at-most NoCandidate = omega arith
-at-most OtherData = omega arith
-at-most NotEnough = omega arith
-at-most Dummy = omega arith
-at-most VerdictNo = omega arith
-at-most StatusAddsNothing = omega arith
+-- and none has one of the two numbers that reading an orbit has of its own
+pub never-orbits : (why : Refusal) → (numberOf why ≢ 21) × (numberOf why ≢ 22)
+never-orbits Sizes = (omega arith, omega arith)
+never-orbits TooShort = (omega arith, omega arith)
+never-orbits NotAStore = (omega arith, omega arith)
+never-orbits NoSatellite = (omega arith, omega arith)
+never-orbits NoTime = (omega arith, omega arith)
+never-orbits NotAStart = (omega arith, omega arith)
+never-orbits OutOfTime = (omega arith, omega arith)
+never-orbits NotAllowed = (omega arith, omega arith)
+never-orbits Unknown = (omega arith, omega arith)
+never-orbits NoCandidate = (omega arith, omega arith)
+never-orbits OtherData = (omega arith, omega arith)
+never-orbits NotEnough = (omega arith, omega arith)
+never-orbits Earlier = (omega arith, omega arith)
+never-orbits Dummy = (omega arith, omega arith)
+never-orbits VerdictNo = (omega arith, omega arith)
+never-orbits StatusAddsNothing = (omega arith, omega arith)
+never-orbits AgeUnknown = (omega arith, omega arith)
 
 -- two replies with one answer are one
 pub same-reply : (a b : Reply) → replyAnswer a ≡ replyAnswer b → a ≡ b

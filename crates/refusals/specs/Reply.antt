@@ -4,7 +4,7 @@ use mathlib.Core.List.{[]}
 use Rattle.paper.specs.Number.{Answer, done, refused}
 use Rattle.refusals.specs.declared.Refusal.{Refusal}
 use Rattle.refusals.specs.declared.Refusal.the-variants.{Sizes, TooShort, NotAStore, NoSatellite, NoTime, NotAStart, OutOfTime, NotAllowed}
-use Rattle.refusals.specs.declared.Refusal.the-variants.{Unknown, NoCandidate, OtherData, NotEnough, Dummy, VerdictNo, StatusAddsNothing}
+use Rattle.refusals.specs.declared.Refusal.the-variants.{Unknown, NoCandidate, OtherData, NotEnough, Earlier, Dummy, VerdictNo, StatusAddsNothing, AgeUnknown}
 use Rattle.refusals.specs.declared.Reply.{Reply}
 use Rattle.refusals.specs.declared.Reply.the-variants.{Done, Refused}
 
@@ -22,9 +22,11 @@ numberOf Unknown = 9
 numberOf NoCandidate = 10
 numberOf OtherData = 11
 numberOf NotEnough = 12
+numberOf Earlier = 15
 numberOf Dummy = 16
 numberOf VerdictNo = 17
 numberOf StatusAddsNothing = 18
+numberOf AgeUnknown = 24
 
 -- STORE 14.5: 0 with no values, or the refusal's number
 abbrev pub replyAnswer : Reply → Answer

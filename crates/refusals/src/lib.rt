@@ -5,7 +5,7 @@ ghost use Rattle.refusals.specs.Reply.{numberOf};
 
 // The refusals of the calls; each has its number in STORE 14.1.
 pub enum Refusal {
-    // 1: D or N outside its range
+    // 1: D, N or the ageing rule outside its range
     Sizes,
     // 2: room too short for a fresh store
     TooShort,
@@ -29,12 +29,16 @@ pub enum Refusal {
     OtherData,
     // 12: no record of the satellite has 40
     NotEnough,
+    // 15: under rule 1, word of an earlier subframe than the current row's
+    Earlier,
     // 16: COP 0, nothing added
     Dummy,
     // 17: verdict no
     VerdictNo,
     // 18: status 0 or 3, nothing added
     StatusAddsNothing,
+    // 24: under rule 1, the age of the record that answers is not known
+    AgeUnknown,
 }
 
 // The reply of a call that has no values beside its number.
@@ -60,8 +64,10 @@ pub fn number(why: Refusal) -> u8
         Refusal::NoCandidate => 10,
         Refusal::OtherData => 11,
         Refusal::NotEnough => 12,
+        Refusal::Earlier => 15,
         Refusal::Dummy => 16,
         Refusal::VerdictNo => 17,
         Refusal::StatusAddsNothing => 18,
+        Refusal::AgeUnknown => 24,
     }
 }

@@ -11,7 +11,7 @@ use Rattle.paper.specs.Parts.{onParts}
 use Rattle.paper.specs.Record.{Family, CED, Timing, agesAt, ages, size, agesOf, withAges, older, aged}
 use Rattle.paper.specs.Room.{currentAt, headSize, slotSize, base, rowSize, depth, slots, current, rowAt, rowOf, marked, isAt, inSlot, eachRecord}
 use Rattle.paper.specs.Store.{InRange}
-use Rattle.paper.specs.Feed.{nextRow, moves, copied, agedRow, advanced}
+use Rattle.paper.specs.Feed.{nextRow, moves, risesBy, copied, agedRow, advanced}
 use Rattle.paper.proofs.Parts.{Keeps, onPart-by, onPart-length, part-back-at}
 use Rattle.paper.proofs.Views.{slot-fits, row-inside}
 use Rattle.paper.proofs.Lengths.{keeps-aged}
@@ -32,10 +32,10 @@ aged-by f by rec new e = onPart-by (λ _. new) (map (older by)) agesAt (ages f) 
 keeps-inSlot : (f : Family) (by : ℕ) → Keeps (inSlot f (aged f by)) slotSize
 keeps-inSlot f by slot e = onPart-length (aged f by) (size f) (keeps-aged f by) (base f) slot (omega (arith, slot-fits f)) ∙ e
 
-pub aged-once : (n : ℕ) (row : List ℕ) → rowSize n ≤ length row → agedRow n row ≡ onParts (agedSlot 1) slotSize n headSize row
+pub aged-once : (by n : ℕ) (row : List ℕ) → rowSize n ≤ length row → agedRow by n row ≡ onParts (agedSlot by) slotSize n headSize row
 unfolding agedRow eachRecord
-aged-once n row h =
-    onParts-twice (inSlot Timing (aged Timing 1)) (inSlot CED (aged CED 1)) slotSize (keeps-inSlot Timing 1) (keeps-inSlot CED 1) n headSize row h
+aged-once by n row h =
+    onParts-twice (inSlot Timing (aged Timing by)) (inSlot CED (aged CED by)) slotSize (keeps-inSlot Timing by) (keeps-inSlot CED by) n headSize row h
 
 module _ (w t : ℕ) (room row : List ℕ) (e : row ≡ rowOf (current room) room) where
   pub moves-blank : marked row ≡ false → false ≡ moves w t room
@@ -70,17 +70,17 @@ module _ {room : List ℕ} {d n c next from to : ℕ} (s : Next room d n c next 
   )
 
   -- the copy, the row made current and its ages are together the paper's advance
-  pub advanced-by : {size : ℕ} {copy after : List ℕ} → size ≡ rowSize n
-      → copy ≡ copied n from to room → after ≡ agedRow n (take (to + size - to) (drop to (set copy currentAt next)))
-      → take to (set copy currentAt next) ++ (after ++ drop (to + size - to) (drop to (set copy currentAt next))) ≡ advanced room
+  pub advanced-by : (by : ℕ) {size : ℕ} {copy after : List ℕ} → size ≡ rowSize n
+      → copy ≡ copied n from to room → after ≡ agedRow by n (take (to + size - to) (drop to (set copy currentAt next)))
+      → take to (set copy currentAt next) ++ (after ++ drop (to + size - to) (drop to (set copy currentAt next))) ≡ advanced by room
   unfolding advanced
-  advanced-by {size} {copy} {after} long e a =
-      part-back-at (agedRow n) to size (set copy currentAt next) after a ∙ rw (e, long, s .source, s .target, s .ahead, s .row, s .count, s .rows)
+  advanced-by by {size} {copy} {after} long e a =
+      part-back-at (agedRow by n) to size (set copy currentAt next) after a ∙ rw (e, long, s .source, s .target, s .ahead, s .row, s .count, s .rows)
 
 -- what is known of a store holds after the ring has moved, or not
-pub moved-facts : (w t : ℕ) (room : List ℕ) → InRange room → InRange (cond (moves w t room) (advanced room) room)
+pub moved-facts : (w t : ℕ) (room : List ℕ) → InRange room → InRange (cond (moves w t room) (advanced (risesBy w t room) room) room)
 moved-facts w t room F = go (moves w t room)
   where
-    go : (b : Bool) → InRange (cond b (advanced room) room)
-    go true = advanced-facts room F
+    go : (b : Bool) → InRange (cond b (advanced (risesBy w t room) room) room)
+    go true = advanced-facts room F (risesBy w t room)
     go false = F

@@ -1,5 +1,6 @@
 // The ring of rows (STORE 10.2 to 10.4): before a word's records are chosen, the current row is settled for the
-// word's subframe. Where it has another subframe, the next row takes a copy of all records, becomes current and ages by one.
+// word's subframe. Where it has another subframe, the next row takes a copy of all records, becomes current and ages, by as much as the
+// ageing rule says.
 ghost use mathlib.Core.Path.{_≡_};
 ghost use mathlib.Core.Bool.{cond};
 ghost use mathlib.Core.Logic.{_⊎_};
@@ -8,7 +9,7 @@ ghost use lib.ListN.{length};
 ghost use Rattle.paper.specs.Record.{CED, Timing as TIMING, size, aged};
 ghost use Rattle.paper.specs.Room.{slotSize, rowSize};
 ghost use Rattle.paper.specs.Store.{InRange};
-ghost use Rattle.paper.specs.Feed.{moves, copied, agedRow, advanced, currentMarked, settled};
+ghost use Rattle.paper.specs.Feed.{moves, risesBy, copied, agedRow, advanced, currentMarked, settled};
 ghost use Rattle.ring.specs.Slot.{agedSlot};
 use layout::CURRENT_AT;
 use layout::ROW_HEAD;
@@ -58,16 +59,16 @@ fn age_slot(slot: &mut [u8], by: u8)
     age_timing(&mut slot[TIMING_AT..SLOT], by);
 }
 
-// STORE 10.3: every age of the row one more
-pub fn age_row(row: &mut [u8], n: usize)
+// STORE 10.3: every age of the row so much more
+pub fn age_row(row: &mut [u8], n: usize, by: u8)
     requires { ⌜ rowSize n ≤ length (now row) ⌝ }
-    ensures { λ _. ⌜ now (row .exit) ≡ agedRow n (now (row .entry)) ⌝ }
+    ensures { λ _. ⌜ now (row .exit) ≡ agedRow by n (now (row .entry)) ⌝ }
 {
     let mut at = ROW_HEAD;
     let mut left = n;
     while left > 0 {
         let e = at + SLOT;
-        age_slot(&mut row[at..e], 1);
+        age_slot(&mut row[at..e], by);
         at = e;
         left -= 1;
     }
@@ -85,10 +86,10 @@ fn has_other_subframe(room: &[u8], week: u16, time: u32) -> bool
     !rows::is_at(row, week, time)
 }
 
-// STORE 10.3: the next row filled by the copy, current, and aged
-fn advance(room: &mut [u8])
+// STORE 10.3: the next row filled by the copy, current, and so much older
+fn advance(room: &mut [u8], by: u8)
     requires { ⌜ InRange (now room) ⌝ }
-    ensures { λ _. ⌜ now (room .exit) ≡ advanced (now (room .entry)) ⌝ }
+    ensures { λ _. ⌜ now (room .exit) ≡ advanced by (now (room .entry)) ⌝ }
 {
     let n = rows::slots(room);
     let c = rows::current(room);
@@ -97,18 +98,21 @@ fn advance(room: &mut [u8])
     copy_records(room, n, rows::row_start(n, c), to);
     room[CURRENT_AT] = next as u8;
     let e = to + rows::row_size(n);
-    age_row(&mut room[to..e], n);
+    age_row(&mut room[to..e], n, by);
 }
 
 fn advance_for(room: &mut [u8], week: u16, time: u32)
     requires { ⌜ InRange (now room) ⌝ }
     ensures { λ _. ⌜ now (room .exit)
-        ≡ cond (moves week time (now (room .entry))) (advanced (now (room .entry))) (now (room .entry)) ⌝ }
+        ≡ cond (moves week time (now (room .entry)))
+        (advanced (risesBy week time (now (room .entry))) (now (room .entry)))
+        (now (room .entry)) ⌝ }
 {
     if !has_other_subframe(room, week, time) {
         return;
     }
-    advance(room);
+    let by = ageing::rises_by(room, week, time);
+    advance(room, by);
 }
 
 // STORE 10.4: the current row marked

@@ -4,7 +4,7 @@ ghost use mathlib.Core.Path.{_≡_};
 ghost use Prim.Native.Nat.{_≤_, _<_};
 ghost use lib.ListN.{length};
 ghost use Rattle.paper.specs.Record.{familyIf};
-ghost use Rattle.paper.specs.Room.{headerSize, headSize, rowSize, roomSize, depth, slots, current, rowAt, rowOf, marked, isAt, slotAt, recordAt};
+ghost use Rattle.paper.specs.Room.{headerSize, headSize, rowSize, roomSize, depth, slots, current, byTime, rowAt, rowOf, marked, isAt, slotAt, recordAt};
 ghost use Rattle.paper.specs.Store.{InRange};
 ghost use Rattle.paper.specs.Feed.{nextRow, markedAt};
 ghost use Rattle.paper.specs.Ask.{rowBack};
@@ -14,9 +14,11 @@ use layout::HEADER;
 use layout::MARK_AT;
 use layout::MARKED;
 use layout::ROW_HEAD;
+use layout::RULE_AT;
 use layout::SLOT;
 use layout::SLOTS_AT;
 use layout::TIME_AT;
+use layout::TIME_RULE;
 use layout::WEEK_AT;
 
 // D: how many rows the room has.
@@ -41,6 +43,14 @@ pub fn current(room: &[u8]) -> usize
     ensures { λ r. ⌜ (r ≡ current (now (room .entry))) × (r < 256) ⌝ }
 {
     numbers::as_usize(room[CURRENT_AT])
+}
+
+// STORE 7.7: whether ages count time.
+pub fn by_time(room: &[u8]) -> bool
+    requires { ⌜ headerSize ≤ length (now room) ⌝ }
+    ensures { λ r. ⌜ r ≡ byTime (now (room .entry)) ⌝ }
+{
+    room[RULE_AT] == TIME_RULE
 }
 
 // The bytes of a row of n slots.

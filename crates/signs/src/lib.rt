@@ -1,7 +1,16 @@
-// Signed numbers: one without its sign, and the one that 32 bits are.
+// Signed numbers: whether one is below 0, one without its sign, and the one that 32 bits are.
 ghost use mathlib.Core.Path.{_≡_};
+ghost use mathlib.Core.Bool.{not};
 ghost use lib.IntN.{natAbs};
+ghost use lib.Signed.{nonNeg};
 ghost use Rattle.signs.specs.Signs.{twosComplement};
+
+// Whether it is below 0.
+pub fn below_zero(n: i32) -> bool
+    ensures { λ r. ⌜ r ≡ not (nonNeg n) ⌝ }
+{
+    n < 0
+}
 
 // A number without its sign: the least i32 has a size too.
 pub fn size(n: i32) -> u32

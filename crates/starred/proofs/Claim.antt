@@ -8,7 +8,7 @@ use Rattle.paper.proofs.Opens.{callsOpen}
 use Rattle.paper.proofs.Same.{list-true}
 use Rattle.paper.specs.Record.{sameList}
 use Rattle.starred.specs.Row.{Row, Every, every, lastAnswer, after, at, satellites, word}
-use Rattle.starred.specs.Table.{table, cedData, five, tag, accepted, later, laterRefused, laterAccepted, firstAgain, times, places, tags, backward, nearMisses}
+use Rattle.starred.specs.Table.{table, cedData, five, tag, accepted, later, laterRefused, laterAccepted, firstAgain, times, places, tags, gap, cameBack, notLatest, timed, backward, nearMisses}
 
 each : (rows : List Row) → every rows ≡ true → Every rows
 unfolding every
@@ -18,7 +18,7 @@ each (r ∷ rs) t =
     (list-true (r .given) (r .said) (both .0), each rs (both .1))
 
 computed : every table ≡ true
-unfolding every table cedData five tag accepted later laterRefused laterAccepted firstAgain times places tags backward nearMisses lastAnswer after at satellites word callsOpen
+unfolding every table cedData five tag accepted later laterRefused laterAccepted firstAgain times places tags gap cameBack notLatest timed backward nearMisses lastAnswer after at satellites word callsOpen
 computed = refl
 
 -- every starred example of STORE 18, and every near miss of 16.6, comes out as it says

@@ -1,13 +1,13 @@
 -- STORE 18, the examples with a star, and the near misses of STORE 16.6, as rows of one table.
-use Prim.Native.Nat.{ℕ, _+_}
+use Prim.Native.Nat.{ℕ, _+_, _*_}
 use mathlib.Core.Bool.{Bool, true, false}
 use mathlib.Core.List.{List, [], _∷_, _++_}
-use lib.ListN.{replicate, take}
+use lib.ListN.{replicate, take, set}
 use lib.IntN.{ℤ, pos, negsuc}
 use Rattle.paper.specs.Parts.{onPart}
-use Rattle.paper.specs.Time.{addSeconds, subframeOf, difference}
+use Rattle.paper.specs.Time.{addSeconds, subframeOf, difference, goneBy}
 use Rattle.paper.specs.Record.{Family, CED, Timing, size, satellite, count, agesOf, dataOf, withCount}
-use Rattle.paper.specs.Room.{rowAt, recordAt}
+use Rattle.paper.specs.Room.{ruleAt, timeRule, rowAt, recordAt}
 use Rattle.paper.specs.Call.{Call, freshCall, feedCall, tagCall, candidateCall, askCall, resetCall, roomAfter, answerTo, partTo}
 use Rattle.starred.specs.Row.{Row, row, flat, flatDifference, lastAnswer, after, at, satellites, word}
 
@@ -19,9 +19,12 @@ feed sat type t band = feedCall (word type 170) sat 1177 t band
 unfoldable pub cedData : List ℕ → List ℕ
 cedData room = dataOf CED (at CED 0 0 room)
 
--- D 2, N 1: all five words of E01 at T = 175740
+-- D 2, N 1, under a rule: all five words of E01 at T = 175740
+abbrev fiveUnder : ℕ → List Call
+fiveUnder rule = feed 1 5 175748 0 ∷ feed 1 4 175746 0 ∷ feed 1 3 175744 0 ∷ feed 1 2 175742 0 ∷ feed 1 1 175740 0 ∷ freshCall 2 1 rule ∷ []
+
 unfoldable pub five : List Call
-five = feed 1 5 175748 0 ∷ feed 1 4 175746 0 ∷ feed 1 3 175744 0 ∷ feed 1 2 175742 0 ∷ feed 1 1 175740 0 ∷ freshCall 2 1 ∷ []
+five = fiveUnder 0
 
 -- a CED tag of E01 for the data that stands in row 0, at a MACK time, with a COP and a length
 unfoldable pub tag : ℕ → ℕ → ℕ → List Call → Call
@@ -53,7 +56,7 @@ clockTag w t = tagCall 1 4 1 40 2 w t (replicate 18 0) true
 -- the first subframe of all, tagged; the next; and the first again, when the words are two subframes old
 unfoldable pub firstAgain : List Call
 firstAgain =
-    feedCall (word 0 0) 1 0 0 0 ∷ feedCall (word 0 0) 1 0 30 0 ∷ clockTag 0 30 ∷ clock 0 0 (freshCall 2 1 ∷ [])
+    feedCall (word 0 0) 1 0 0 0 ∷ feedCall (word 0 0) 1 0 30 0 ∷ clockTag 0 30 ∷ clock 0 0 (freshCall 2 1 0 ∷ [])
 
 -- times
 unfoldable pub times : List Row
@@ -77,16 +80,16 @@ times =
 unfoldable pub places : List Row
 places =
     -- 18.6: N 3, fresh: E11 is in slot 2, and then E12 in slot 1
-    row (satellites CED 0 3 (after (feed 11 1 175740 0 ∷ freshCall 1 3 ∷ []))) (0 ∷ 0 ∷ 11 ∷ [])
-    ∷ row (satellites CED 0 3 (after (feed 12 1 175740 0 ∷ feed 11 1 175740 0 ∷ freshCall 1 3 ∷ []))) (0 ∷ 12 ∷ 11 ∷ [])
-    ∷ row (satellites Timing 0 3 (after (feed 12 1 175740 0 ∷ feed 11 1 175740 0 ∷ freshCall 1 3 ∷ []))) (0 ∷ 12 ∷ 11 ∷ [])
+    row (satellites CED 0 3 (after (feed 11 1 175740 0 ∷ freshCall 1 3 0 ∷ []))) (0 ∷ 0 ∷ 11 ∷ [])
+    ∷ row (satellites CED 0 3 (after (feed 12 1 175740 0 ∷ feed 11 1 175740 0 ∷ freshCall 1 3 0 ∷ []))) (0 ∷ 12 ∷ 11 ∷ [])
+    ∷ row (satellites Timing 0 3 (after (feed 12 1 175740 0 ∷ feed 11 1 175740 0 ∷ freshCall 1 3 0 ∷ []))) (0 ∷ 12 ∷ 11 ∷ [])
     -- 18.7: N 2: of E01, E02 and E03 the last takes the slot of the first
     ∷ row
-    (satellites CED 0 2 (after (feed 3 1 175740 0 ∷ feed 2 1 175740 0 ∷ feed 1 1 175740 0 ∷ freshCall 1 2 ∷ [])))
+    (satellites CED 0 2 (after (feed 3 1 175740 0 ∷ feed 2 1 175740 0 ∷ feed 1 1 175740 0 ∷ freshCall 1 2 0 ∷ [])))
     (2 ∷ 3 ∷ [])
     -- 18.8: type 6 on E5B takes the satellite and leaves the ages
-    ∷ row (satellites Timing 0 1 (after (feed 1 6 175740 1 ∷ freshCall 1 1 ∷ []))) (1 ∷ [])
-    ∷ row (agesOf Timing (at Timing 0 0 (after (feed 1 6 175740 1 ∷ freshCall 1 1 ∷ [])))) (255 ∷ 255 ∷ [])
+    ∷ row (satellites Timing 0 1 (after (feed 1 6 175740 1 ∷ freshCall 1 1 0 ∷ []))) (1 ∷ [])
+    ∷ row (agesOf Timing (at Timing 0 0 (after (feed 1 6 175740 1 ∷ freshCall 1 1 0 ∷ [])))) (255 ∷ 255 ∷ [])
     ∷ []
 
 -- tags
@@ -124,32 +127,75 @@ tags =
     (0 ∷ 1 ∷ [])
     ∷ []
 
+-- under rule 1 the five words at T, and then its type 0 word so many subframes later
+unfoldable pub gap : ℕ → List Call
+gap k = feed 1 0 (175740 + 30 * k) 0 ∷ fiveUnder timeRule
+
+-- D 3, N 1, under a rule: the timing words of E01 at 30 s, E02 at 60 s, E01 back at 90 s, and a tag for 30 s: the bits stand at 90 s
+-- too, where their ages are 255
+unfoldable pub cameBack : ℕ → List Call
+cameBack rule =
+    clockTag 1177 60 ∷ feedCall (word 0 0) 1 1177 90 0 ∷ feedCall (word 0 0) 2 1177 60 0 ∷ clock 1177 30 (freshCall 3 1 rule ∷ [])
+
+-- D 3: rows of 30 s, 90 s and 30 s, the last current, and rule 1 written over rule 0: the current row is not the latest
+unfoldable pub notLatest : List ℕ
+notLatest =
+    set (after (feedCall (word 0 0) 1 1177 30 0 ∷ feedCall (word 0 0) 1 1177 90 0 ∷ clock 1177 30 (freshCall 3 1 0 ∷ []))) ruleAt timeRule
+
+-- rule 1
+unfoldable pub timed : List Row
+timed =
+    -- 18.16: twenty subframes gone by; COP 2 and COP 15 find nothing, and the tag for T itself goes to both rows with its bits
+    row (agesOf CED (at CED 1 0 (after (gap 20)))) (20 ∷ 20 ∷ 20 ∷ 20 ∷ 20 ∷ [])
+    ∷ row (lastAnswer (tag 176370 2 40 (gap 20)) (gap 20)) (10 ∷ [])
+    ∷ row (lastAnswer (tag 176370 15 40 (gap 20)) (gap 20)) (10 ∷ [])
+    ∷ row (lastAnswer (tag 175770 1 40 (gap 20)) (gap 20)) (0 ∷ 2 ∷ [])
+    -- 18.17: fourteen gone by, COP 14 and COP 15
+    ∷ row (lastAnswer (tag 176190 14 40 (gap 14)) (gap 14)) (10 ∷ [])
+    ∷ row (lastAnswer (tag 176190 15 40 (gap 14)) (gap 14)) (0 ∷ 2 ∷ [])
+    -- 18.18: from (5, 604770) to (7, 0), and the greatest gap; 256 gone by is held at 255
+    ∷ row (goneBy 7 0 5 604770 ∷ goneBy 65535 604770 0 0 ∷ []) (20161 ∷ 1321205759 ∷ [])
+    ∷ row (agesOf CED (at CED 1 0 (after (gap 256)))) (255 ∷ 255 ∷ 255 ∷ 255 ∷ 255 ∷ [])
+    -- 18.19: a word of the subframe before is 15 and leaves the room; one of the same subframe is taken
+    ∷ row (lastAnswer (feed 1 0 175739 0) (fiveUnder timeRule)) (15 ∷ [])
+    ∷ row (after (feed 1 0 175739 0 ∷ fiveUnder timeRule)) (after (fiveUnder timeRule))
+    ∷ row (lastAnswer (feed 1 0 175740 0) (fiveUnder timeRule)) (0 ∷ [])
+    -- 18.20: the current row decides, not the latest
+    ∷ row (flat (answerTo (feedCall (word 0 0) 1 1177 60 0) notLatest)) (0 ∷ [])
+    ∷ row (flat (answerTo (feedCall (word 0 0) 1 1177 0 0) notLatest)) (15 ∷ [])
+    -- 18.21: the record found has ages 255: 24, though an older row could answer; under rule 0 it answers, 255 subframes before its row
+    ∷ row (lastAnswer (askCall Timing 1) (cameBack timeRule)) (24 ∷ [])
+    ∷ row (lastAnswer (askCall Timing 1) (cameBack 0)) (0 ∷ 40 ∷ 1176 ∷ 597240 ∷ [])
+    -- 18.22: an unknown rule is 1
+    ∷ row (lastAnswer (freshCall 2 1 2) five) (1 ∷ [])
+    ∷ []
+
 -- D 3: the timing words of E01 at 60 s, then, earlier, at 30 s, a tag on both, and at 90 s a changed word, which has no tag
 unfoldable pub backward : List Call
 backward =
-    feedCall (word 10 255) 1 1177 90 0 ∷ clockTag 1177 60 ∷ clock 1177 30 (clock 1177 60 (freshCall 3 1 ∷ []))
+    feedCall (word 10 255) 1 1177 90 0 ∷ clockTag 1177 60 ∷ clock 1177 30 (clock 1177 60 (freshCall 3 1 0 ∷ []))
 
 -- STORE 16.6, near misses: at each input the near miss would give something else
 unfoldable pub nearMisses : List Row
 nearMisses =
     -- the data cleared at a takeover: E02 takes E01's slot, and its data stays
     row
-    (take 3 (dataOf CED (at CED 0 0 (after (feed 2 0 175740 0 ∷ feed 1 1 175740 0 ∷ freshCall 1 1 ∷ [])))))
+    (take 3 (dataOf CED (at CED 0 0 (after (feed 2 0 175740 0 ∷ feed 1 1 175740 0 ∷ freshCall 1 1 0 ∷ [])))))
     (42 ∷ 170 ∷ 170 ∷ [])
     ∷ row
-    (agesOf CED (at CED 0 0 (after (feed 2 0 175740 0 ∷ feed 1 1 175740 0 ∷ freshCall 1 1 ∷ []))))
+    (agesOf CED (at CED 0 0 (after (feed 2 0 175740 0 ∷ feed 1 1 175740 0 ∷ freshCall 1 1 0 ∷ []))))
     (255 ∷ 255 ∷ 255 ∷ 255 ∷ 255 ∷ [])
     -- the first of equal keys chosen: E03 would take slot 0
     ∷ row
-    (satellites Timing 0 2 (after (feed 3 1 175740 0 ∷ feed 2 1 175740 0 ∷ feed 1 1 175740 0 ∷ freshCall 1 2 ∷ [])))
+    (satellites Timing 0 2 (after (feed 3 1 175740 0 ∷ feed 2 1 175740 0 ∷ feed 1 1 175740 0 ∷ freshCall 1 2 0 ∷ [])))
     (2 ∷ 3 ∷ [])
     -- words 6 and 10 kept from E5B
     ∷ row
-    (dataOf Timing (at Timing 0 0 (after (feed 1 10 175740 1 ∷ feed 1 6 175740 1 ∷ freshCall 1 1 ∷ []))))
+    (dataOf Timing (at Timing 0 0 (after (feed 1 10 175740 1 ∷ feed 1 6 175740 1 ∷ freshCall 1 1 0 ∷ []))))
     (replicate 18 0)
     -- types 0 and 63 skipped: they take slots
     ∷ row
-    (satellites CED 0 2 (after (feed 6 63 175740 1 ∷ feed 5 0 175740 0 ∷ freshCall 1 2 ∷ [])))
+    (satellites CED 0 2 (after (feed 6 63 175740 1 ∷ feed 5 0 175740 0 ∷ freshCall 1 2 0 ∷ [])))
     (6 ∷ 5 ∷ [])
     -- the candidate alone credited: the row copied from has the count too
     ∷ row
@@ -161,4 +207,4 @@ nearMisses =
 
 -- the table
 unfoldable pub table : List Row
-table = times ++ (places ++ (tags ++ nearMisses))
+table = times ++ (places ++ (tags ++ (timed ++ nearMisses)))

@@ -5,17 +5,17 @@ use mathlib.Core.Path.{_≡_, refl}
 use Prim.Native.Nat.{ℕ, zero, suc, _+_, _*_, _<_, min, _-_}
 use native.Mathlib.Omega.{arith}
 use lib.Dec.{ltb}
-use borrow.Author.Tests.{ltb-true}
+use borrow.Author.Tests.{ltb-true, leb-true}
 use lib.ListN.{drop, set, replicate}
 use Rattle.paper.specs.Big.{put16}
 use Rattle.paper.specs.Bits.{moved, changed}
 use Rattle.paper.specs.Parts.{part, onPart, Bytes}
 use Rattle.paper.specs.Record.{Family, CED, Timing, dataBytes, ages, size, dataAt, satellite, count, dataOf}
 use Rattle.paper.specs.Record.{withCount, older, aged, blankRecord, mostCount, agesAt, countAt, neverThere, satelliteAt, oldest}
-use Rattle.paper.specs.Room.{slotSize, base, rowSize, depth, slots, current, rowAt, recordAt, inSlot, eachRecord, everyRecord, headSize, headerSize, currentAt, markAt, depthAt, weekAt, timeAt}
+use Rattle.paper.specs.Room.{slotSize, base, rowSize, depth, slots, current, rowAt, recordAt, inSlot, eachRecord, everyRecord, headSize, headerSize, currentAt, zerosAt, timeRule, markAt, depthAt, weekAt, timeAt}
 use Rattle.paper.specs.Word.{Owned, nothing, owns, owned, typeOf, taken, written, fedRecord}
 use Rattle.paper.specs.Fresh.{header, blankSlot, blankRow, fresh}
-use Rattle.paper.specs.Feed.{nextRow, moves, copied, agedRow, advanced, markedAt, currentMarked, settled, chosen, fedFamily, fedRow, fed, fedCurrent}
+use Rattle.paper.specs.Feed.{nextRow, moves, risesBy, copied, agedRow, advanced, markedAt, currentMarked, settled, chosen, fedFamily, fedRow, fed, fedCurrent}
 use Rattle.paper.specs.Tag.{matches, credited, tagged, familyOf, candidateRecord}
 use Rattle.paper.specs.Reset.{reset}
 use Rattle.paper.specs.Answer.{freshNumber, freshRoom, feedNumber, feedRoom, tagNumber, tagRoom, resetNumber, resetRoom}
@@ -35,9 +35,9 @@ bytes-map g h [] k = omega arith
 bytes-map g h (x ∷ l) zero = h x
 bytes-map g h (x ∷ l) (suc k) = bytes-map g h l k
 
-bytes-aged : (f : Family) (rec : List ℕ) → Bytes rec → Bytes (aged f 1 rec)
+bytes-aged : (f : Family) (by : ℕ) (rec : List ℕ) → Bytes rec → Bytes (aged f by rec)
 unfolding aged
-bytes-aged f rec b = bytes-onPart (map (older 1)) agesAt (ages f) rec b (λ _. bytes-map (older 1) (λ x. omega arith) (part agesAt (ages f) rec))
+bytes-aged f by rec b = bytes-onPart (map (older by)) agesAt (ages f) rec b (λ _. bytes-map (older by) (λ x. omega arith) (part agesAt (ages f) rec))
 
 bytes-withCount : (c : ℕ) (rec : List ℕ) → c < 65536 → Bytes rec → Bytes (withCount c rec)
 bytes-withCount c rec h b = bytes-put16 rec countAt c b h
@@ -119,11 +119,11 @@ bytes-reset room b =
     (bytes-everyRecord CED (withCount 0) (λ r c. bytes-withCount 0 r (omega arith) c) room b)
 
 -- ---- rows and the ring
-bytes-agedRow : (n : ℕ) (row : List ℕ) → Bytes row → Bytes (agedRow n row)
+bytes-agedRow : (by n : ℕ) (row : List ℕ) → Bytes row → Bytes (agedRow by n row)
 unfolding agedRow
-bytes-agedRow n row b =
-    bytes-eachRecord Timing n (aged Timing 1) (λ r c. bytes-aged Timing r c) (eachRecord CED n (aged CED 1) row)
-    (bytes-eachRecord CED n (aged CED 1) (λ r c. bytes-aged CED r c) row b)
+bytes-agedRow by n row b =
+    bytes-eachRecord Timing n (aged Timing by) (λ r c. bytes-aged Timing by r c) (eachRecord CED n (aged CED by) row)
+    (bytes-eachRecord CED n (aged CED by) (λ r c. bytes-aged CED by r c) row b)
 
 bytes-copied : (n from to : ℕ) (room : List ℕ) → Bytes room → Bytes (copied n from to room)
 unfolding copied
@@ -139,15 +139,15 @@ next-byte d c h = go (ltb (c + 1) d) refl
     go true e = omega (arith, ltb-true (c + 1) d e)
     go false e = omega arith
 
-bytes-advanced : (room : List ℕ) → Bytes room → Bytes (advanced room)
+bytes-advanced : (by : ℕ) (room : List ℕ) → Bytes room → Bytes (advanced by room)
 unfolding advanced
-bytes-advanced room b =
+bytes-advanced by room b =
     let n = slots room in
     let to = nextRow (depth room) (current room) in
     let c = copied n (rowAt n (current room)) (rowAt n to) room in
-    bytes-onPart (agedRow n) (rowAt n to) (rowSize n) (set c currentAt to)
+    bytes-onPart (agedRow by n) (rowAt n to) (rowSize n) (set c currentAt to)
     (bytes-set c currentAt to (bytes-copied n (rowAt n (current room)) (rowAt n to) room b) (next-byte (depth room) (current room) (b depthAt)))
-    (λ d. bytes-agedRow n (part (rowAt n to) (rowSize n) (set c currentAt to)) d)
+    (λ d. bytes-agedRow by n (part (rowAt n to) (rowSize n) (set c currentAt to)) d)
 
 bytes-markedAt : (w t : ℕ) (row : List ℕ) → w < 65536 → t < 4294967296 → Bytes row → Bytes (markedAt w t row)
 unfolding markedAt
@@ -163,14 +163,14 @@ bytes-settled w t room h g b = go (moves w t room)
         bytes-onPart (markedAt w t) (rowAt (slots x) (current x)) (rowSize (slots x)) x c
         (λ d. bytes-markedAt w t (part (rowAt (slots x) (current x)) (rowSize (slots x)) x) h g d)
 
-    reached : (c : Bool) → Bytes (cond c (advanced room) room)
-    reached true = bytes-advanced room b
+    reached : (c : Bool) → Bytes (cond c (advanced (risesBy w t room) room) room)
+    reached true = bytes-advanced (risesBy w t room) room b
     reached false = b
 
     go : (c : Bool)
-        → let x = cond c (advanced room) room in
+        → let x = cond c (advanced (risesBy w t room) room) room in
         Bytes (onPart (markedAt w t) (rowAt (slots x) (current x)) (rowSize (slots x)) x)
-    go c = mark-it (cond c (advanced room) room) (reached c)
+    go c = mark-it (cond c (advanced (risesBy w t room) room) room) (reached c)
 
 bytes-fedFamily : (f : Family) (n sat band : ℕ) (word row : List ℕ) → sat < 256 → Bytes row → Bytes (fedFamily f n sat band word row)
 unfolding fedFamily
@@ -201,27 +201,31 @@ bytes-blankRow n row b =
     (onPart (λ (_ : List ℕ). replicate headSize 0) 0 headSize row)
     (bytes-onPart (λ (_ : List ℕ). replicate headSize 0) 0 headSize row b (λ _. bytes-replicate headSize 0 (omega arith)))
 
-bytes-fresh : (d n : ℕ) (room : List ℕ) → d < 256 → n < 256 → Bytes room → Bytes (fresh d n room)
+bytes-fresh : (d n rule : ℕ) (room : List ℕ) → d < 256 → n < 256 → rule < 256 → Bytes room → Bytes (fresh d n rule room)
 unfolding fresh
-bytes-fresh d n room h g b =
+bytes-fresh d n rule room h g k b =
     bytes-onParts (blankRow n) (rowSize n) (λ row c. bytes-blankRow n row c) d headerSize
-    (onPart (λ (_ : List ℕ). header d n) 0 headerSize room)
-    (bytes-onPart (λ (_ : List ℕ). header d n) 0 headerSize room b
-    (λ _. bytes-cons d (n ∷ replicate (headerSize - currentAt) 0) h (bytes-cons n (replicate (headerSize - currentAt) 0) g (bytes-replicate (headerSize - currentAt) 0 (omega arith)))))
+    (onPart (λ (_ : List ℕ). header d n rule) 0 headerSize room)
+    (bytes-onPart (λ (_ : List ℕ). header d n rule) 0 headerSize room b
+    (λ _. bytes-cons d (n ∷ 0 ∷ rule ∷ replicate (headerSize - zerosAt) 0) h
+    (bytes-cons n (0 ∷ rule ∷ replicate (headerSize - zerosAt) 0) g
+    (bytes-cons 0 (rule ∷ replicate (headerSize - zerosAt) 0) (omega arith)
+    (bytes-cons rule (replicate (headerSize - zerosAt) 0) k (bytes-replicate (headerSize - zerosAt) 0 (omega arith)))))))
 
 -- ---- any call, and calls after each other
 pub call-bytes : (c : Call) (room : List ℕ) → WeekFits c → Bytes room → Bytes (roomAfter c room)
 unfolding roomAfter freshRoom feedRoom tagRoom resetRoom
-call-bytes (freshCall d n) room w b =
-    room-for Bytes (freshNumber d n room) (fresh d n room) room
+call-bytes (freshCall d n rule) room w b =
+    room-for Bytes (freshNumber d n rule room) (fresh d n rule room) room
     (λ e.
-    let s = sizes-facts d n (fresh-allowed d n room e .0) in
-    bytes-fresh d n room (omega (arith, s .1)) (omega (arith, s .3)) b)
+    let a = fresh-allowed d n rule room e in
+    let s = sizes-facts d n (a .0) in
+    bytes-fresh d n rule room (omega (arith, s .1)) (omega (arith, s .3)) (omega (arith, leb-true rule timeRule (a .2))) b)
     b
 call-bytes (feedCall word sat w t band) room h b =
-    room-for Bytes (feedNumber word sat t band room) (fed w (startOf t) sat band word room) room
+    room-for Bytes (feedNumber word sat w t band room) (fed w (startOf t) sat band word room) room
     (λ e.
-    let a = feed-allowed word sat t band room e in
+    let a = feed-allowed word sat w t band room e in
     let k = satellite-known sat (a .0) in
     bytes-fed w (startOf t) sat band word room h (omega (arith, ltb-true t weekSeconds (a .1))) (omega (arith, k .1)) b)
     b

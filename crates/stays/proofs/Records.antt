@@ -46,10 +46,10 @@ blank-record f most =
     zero-end CED = refl
     zero-end Timing = refl
 
-pub aged-stays : (f : Family) (most : ℕ) (rec : List ℕ) → length rec ≡ size f → RecordFacts f most rec → RecordFacts f most (aged f 1 rec)
-aged-stays f most rec l R =
-    record-stays f most rec (aged f 1 rec) (aged-satellite f 1 rec l) (λ z. aged-count f 1 rec l ∙ z)
-    (same-end f rec (aged f 1 rec) (aged-data f 1 rec l))
+pub aged-stays : (f : Family) (by most : ℕ) (rec : List ℕ) → length rec ≡ size f → RecordFacts f most rec → RecordFacts f most (aged f by rec)
+aged-stays f by most rec l R =
+    record-stays f most rec (aged f by rec) (aged-satellite f by rec l) (λ z. aged-count f by rec l ∙ z)
+    (same-end f rec (aged f by rec) (aged-data f by rec l))
     R
 
 pub uncounted-stays : (f : Family) (most : ℕ) (rec : List ℕ) → length rec ≡ size f → RecordFacts f most rec → RecordFacts f most (withCount 0 rec)

@@ -11,11 +11,11 @@ use borrow.Author.Tests.{ltb-true, leb-true, eqb-true}
 use lib.ListN.{length, getD}
 use Rattle.paper.specs.Big.{be16, be32}
 use Rattle.paper.specs.Record.{Family, satellite, dataOf, aged}
-use Rattle.paper.specs.Room.{rowSize, roomSize, depth, slots, current, rowOf, recordOf, zerosAt, headerSize, currentAt, slotsAt, headSize, markAt, depthAt, spareAt}
+use Rattle.paper.specs.Room.{rowSize, roomSize, depth, slots, current, rowOf, recordOf, ruleAt, zerosAt, headerSize, currentAt, slotsAt, headSize, markAt, depthAt, spareAt}
 use Rattle.paper.specs.Word.{fedRecord}
-use Rattle.paper.specs.Store.{InRange, sizesAllowed, headerZeros, mostIn, rowAllowed, isStore}
+use Rattle.paper.specs.Store.{InRange, sizesAllowed, ruleKnown, headerRest, mostIn, rowAllowed, isStore}
 use Rattle.paper.specs.Fresh.{fresh}
-use Rattle.paper.specs.Feed.{moves, markedAt, chosen, fed}
+use Rattle.paper.specs.Feed.{moves, risesBy, markedAt, chosen, fed}
 use Rattle.paper.specs.Tag.{tagged, familyOf, kindKnown, statusKnown, copAllowed, lengthAllowed, thirtyBefore, firstSlot, candidateRow, candidateSlot, candidateRecord, hasCandidate}
 use Rattle.paper.specs.Reset.{reset}
 use Rattle.paper.specs.Satellite.{mostSatellites, isSatellite}
@@ -29,7 +29,7 @@ use Rattle.paper.proofs.WordViews.{markedAt-spare, markedAt-mark, markedAt-time
 use Rattle.paper.proofs.WordViews.{rowTaken-head, fedRow-head, fed-header, fed-facts, fed-here, fed-record, fed-there}
 use Rattle.paper.proofs.CallViews.{fresh-length, fresh-header, fresh-depth, fresh-slots, fresh-current, fresh-head, fresh-record, tagged-header}
 use Rattle.paper.proofs.CallViews.{tagged-facts, tagged-head, tagged-record, tagged-other, reset-header, reset-facts, reset-head, reset-record}
-use Rattle.paper.proofs.StoreFacts.{both-true, sizes-facts, store-facts, store-zeros, store-row, facts-store, zeros-same, RecordFacts, RowFacts, mostIn-most, row-facts, row-allowed, store-record}
+use Rattle.paper.proofs.StoreFacts.{both-true, sizes-facts, store-facts, store-rest, store-row, facts-store, rest-same, RecordFacts, RowFacts, mostIn-most, row-facts, row-allowed, store-record}
 use Rattle.stays.proofs.Records.{record-more, aged-stays, uncounted-stays, fedRecord-stays, credited-stays}
 use Rattle.stays.proofs.Rows.{either-family, SameHead, same-time, row-stays, blank-row, marked-row}
 use Rattle.paper.proofs.Order.{unless-zero}
@@ -49,70 +49,72 @@ satellite-known sat e =
     (leb-true 1 sat (a .0), leb-true sat mostSatellites (a .1))
 
 -- ---- a fresh room
-pub fresh-allowed : (d n : ℕ) (room : List ℕ) → freshNumber d n room ≡ 0 → (sizesAllowed d n ≡ true) × (roomSize d n ≤ length room)
+pub fresh-allowed : (d n rule : ℕ) (room : List ℕ) → freshNumber d n rule room ≡ 0 → (sizesAllowed d n ≡ true) × (roomSize d n ≤ length room) × (ruleKnown rule ≡ true)
 unfolding freshNumber
-fresh-allowed d n room e =
-    let a = unless-zero (sizesAllowed d n) 1 (unless (leb (roomSize d n) (length room)) 2 0) (omega arith) e in
+fresh-allowed d n rule room e =
+    let a = unless-zero (sizesAllowed d n && ruleKnown rule) 1 (unless (leb (roomSize d n) (length room)) 2 0) (omega arith) e in
     let b = unless-zero (leb (roomSize d n) (length room)) 2 0 (omega arith) (a .1) in
-    (a .0, leb-true (roomSize d n) (length room) (b .0))
+    let c = both-true (sizesAllowed d n) (ruleKnown rule) (a .0) in
+    (c .0, leb-true (roomSize d n) (length room) (b .0), c .1)
 
-module _ (d n : ℕ) (room : List ℕ) (made : freshNumber d n room ≡ 0) where
+module _ (d n rule : ℕ) (room : List ℕ) (made : freshNumber d n rule room ≡ 0) where
   fresh-fits : roomSize d n ≤ length room
-  fresh-fits = fresh-allowed d n room made .1
+  fresh-fits = fresh-allowed d n rule room made .1
 
-  pub fresh-facts : InRange (fresh d n room)
+  pub fresh-facts : InRange (fresh d n rule room)
   fresh-facts =
-      let s = sizes-facts d n (fresh-allowed d n room made .0) in
-      let ed = fresh-depth d n room fresh-fits in
-      let en = fresh-slots d n room fresh-fits in
-      let el = fresh-length d n room fresh-fits in
+      let s = sizes-facts d n (fresh-allowed d n rule room made .0) in
+      let ed = fresh-depth d n rule room fresh-fits in
+      let en = fresh-slots d n rule room fresh-fits in
+      let el = fresh-length d n rule room fresh-fits in
       record {
         long = omega (arith, el, fresh-fits);
         someRow = rw ed (s .0);
         rowsWithin = rw ed (s .1);
         someSlot = rw en (s .2);
         slotsWithin = rw en (s .3);
-        inRing = rw (fresh-current d n room fresh-fits, ed) (s .0);
+        inRing = rw (fresh-current d n rule room fresh-fits, ed) (s .0);
         fits = rw (ed, en, el) fresh-fits;
       }
 
-  fresh-zeros : headerZeros (fresh d n room) ≡ true
-  unfolding headerZeros be32 be16
-  fresh-zeros =
+  fresh-rest : headerRest (fresh d n rule room) ≡ true
+  unfolding headerRest be32 be16
+  fresh-rest =
       rw (
-        fresh-header d n room fresh-fits zerosAt (omega arith),
-        fresh-header d n room fresh-fits (zerosAt + 1) (omega arith),
-        fresh-header d n room fresh-fits (zerosAt + 2) (omega arith),
-        fresh-header d n room fresh-fits (zerosAt + 3) (omega arith),
-        fresh-header d n room fresh-fits (zerosAt + 4) (omega arith),
+        fresh-header d n rule room fresh-fits ruleAt (omega arith),
+        fresh-header d n rule room fresh-fits zerosAt (omega arith),
+        fresh-header d n rule room fresh-fits (zerosAt + 1) (omega arith),
+        fresh-header d n rule room fresh-fits (zerosAt + 2) (omega arith),
+        fresh-header d n rule room fresh-fits (zerosAt + 3) (omega arith),
+        fresh-allowed d n rule room made .2,
       )
 
-  fresh-row-allowed : (r : ℕ) → r < depth (fresh d n room) → rowAllowed (slots (fresh d n room)) (rowOf r (fresh d n room)) ≡ true
+  fresh-row-allowed : (r : ℕ) → r < depth (fresh d n rule room) → rowAllowed (slots (fresh d n rule room)) (rowOf r (fresh d n rule room)) ≡ true
   fresh-row-allowed r h =
-      let b : r < d = rw (fresh-depth d n room fresh-fits) at h in
-      row-allowed (slots (fresh d n room)) (rowOf r (fresh d n room))
-      (blank-row (slots (fresh d n room)) (rowOf r (fresh d n room)) (fresh-head d n room fresh-fits r b)
-      (λ f i g. fresh-record d n room fresh-fits f r b i (rw (fresh-slots d n room fresh-fits) at g)))
+      let b : r < d = rw (fresh-depth d n rule room fresh-fits) at h in
+      row-allowed (slots (fresh d n rule room)) (rowOf r (fresh d n rule room))
+      (blank-row (slots (fresh d n rule room)) (rowOf r (fresh d n rule room)) (fresh-head d n rule room fresh-fits r b)
+      (λ f i g. fresh-record d n rule room fresh-fits f r b i (rw (fresh-slots d n rule room fresh-fits) at g)))
 
-  fresh-store : isStore (fresh d n room) ≡ true
-  fresh-store = facts-store (fresh d n room) fresh-facts fresh-zeros fresh-row-allowed
+  fresh-store : isStore (fresh d n rule room) ≡ true
+  fresh-store = facts-store (fresh d n rule room) fresh-facts fresh-rest fresh-row-allowed
 
   -- what a fresh call that succeeds leaves is a store
-  pub fresh-stores : isStore (freshRoom d n room) ≡ true
+  pub fresh-stores : isStore (freshRoom d n rule room) ≡ true
   unfolding freshRoom
   fresh-stores = rw made fresh-store
 
 -- a store stays one after any fresh call
-pub fresh-stays : (d n : ℕ) (room : List ℕ) → isStore room ≡ true → isStore (freshRoom d n room) ≡ true
+pub fresh-stays : (d n rule : ℕ) (room : List ℕ) → isStore room ≡ true → isStore (freshRoom d n rule room) ≡ true
 unfolding freshRoom
-fresh-stays d n room s =
-    room-for (λ (x : List ℕ). isStore x ≡ true) (freshNumber d n room) (fresh d n room) room (λ e. fresh-store d n room e) s
+fresh-stays d n rule room s =
+    room-for (λ (x : List ℕ). isStore x ≡ true) (freshNumber d n rule room) (fresh d n rule room) room (λ e. fresh-store d n rule room e) s
 
 -- ---- a change that leaves the header, and every row allowed
 store-still : (x y : List ℕ) → isStore x ≡ true → InRange y → ((i : ℕ) → i < headerSize → i ≢ currentAt → getD y i 0 ≡ getD x i 0)
     → ((r : ℕ) → r < depth x → RowFacts (slots x) (rowOf r y)) → isStore y ≡ true
 store-still x y s F e rows =
-    facts-store y F (zeros-same x y e (store-zeros x s))
+    facts-store y F (rest-same x y e (store-rest x s))
     (λ r h. row-allowed (slots y) (rowOf r y)
     (subst (λ (n : ℕ). RowFacts n (rowOf r y)) (sym (e slotsAt (omega arith) (omega arith))) (rows r (rw (e depthAt (omega arith) (omega arith)) at h))))
 
@@ -139,8 +141,8 @@ module _ (w t sat band : ℕ) (word room : List ℕ) (s : isStore room ≡ true)
           record-more f (mostIn (rowOf (current room) room)) mostSatellites rec (mostIn-most (rowOf (current room) room))
           (store-record room s f (current room) (F .inRing) i b)
 
-      go : (b : Bool) → RecordFacts f mostSatellites (cond b (aged f 1 rec) rec)
-      go true = aged-stays f mostSatellites rec (length-record f (slots room) i (rowOf (current room) room) (length-rowOf room F (current room) (F .inRing)) b) was
+      go : (b : Bool) → RecordFacts f mostSatellites (cond b (aged f (risesBy w t room) rec) rec)
+      go true = aged-stays f (risesBy w t room) mostSatellites rec (length-record f (slots room) i (rowOf (current room) room) (length-rowOf room F (current room) (F .inRing)) b) was
       go false = was
 
   fed-allowed : (f : Family) (i : ℕ) → i < slots room → RecordFacts f mostSatellites (recordOf f i (rowOf (rowSettled w t room) (fed w t sat band word room)))
@@ -189,9 +191,9 @@ module _ (w t sat band : ℕ) (word room : List ℕ) (s : isStore room ≡ true)
   fed-store = store-still room (fed w t sat band word room) s (fed-facts w t sat band word room F) (fed-header w t sat band word room F) fed-row
 
 -- what a word asks for, where its number is 0
-pub feed-allowed : (word : List ℕ) (sat t band : ℕ) (room : List ℕ) → feedNumber word sat t band room ≡ 0 → (isSatellite sat ≡ true) × (isTime t ≡ true)
+pub feed-allowed : (word : List ℕ) (sat w t band : ℕ) (room : List ℕ) → feedNumber word sat w t band room ≡ 0 → (isSatellite sat ≡ true) × (isTime t ≡ true)
 unfolding feedNumber
-feed-allowed word sat t band room e =
+feed-allowed word sat w t band room e =
     let a = unless-zero (isStore room) 3 _ (omega arith) e in
     let b = unless-zero (isSatellite sat) 4 _ (omega arith) (a .1) in
     let c = unless-zero (isTime t) 5 _ (omega arith) (b .1) in
@@ -201,9 +203,9 @@ feed-allowed word sat t band room e =
 pub feed-stays : (word : List ℕ) (sat w t band : ℕ) (room : List ℕ) → isStore room ≡ true → isStore (feedRoom word sat w t band room) ≡ true
 unfolding feedRoom
 feed-stays word sat w t band room s =
-    room-for (λ (x : List ℕ). isStore x ≡ true) (feedNumber word sat t band room) (fed w (startOf t) sat band word room) room
+    room-for (λ (x : List ℕ). isStore x ≡ true) (feedNumber word sat w t band room) (fed w (startOf t) sat band word room) room
     (λ e.
-    let a = feed-allowed word sat t band room e in
+    let a = feed-allowed word sat w t band room e in
     let k = satellite-known sat (a .0) in
     let b = start-fits t (ltb-true t weekSeconds (a .1)) in
     fed-store w (startOf t) sat band word room s (k .0) (k .1) (b .0) (b .1))

@@ -9,9 +9,9 @@ use lib.Dec.{eqb, leb, ltb, eqb·suc-zero}
 use borrow.Author.Tests.{le-leb, lt-leb, ltb-true, leb-true, leb-false}
 use lib.ListN.{length, getD, take, set, length-set, drop, take-append-drop}
 use lib.Seq.{length-take-le, take-set-lt}
-use Rattle.paper.specs.Room.{roomSize, rowSize, depth, slots, current, depthAt, slotsAt, currentAt, zerosAt, headerSize}
+use Rattle.paper.specs.Room.{roomSize, rowSize, depth, slots, current, depthAt, slotsAt, currentAt, ruleAt, zerosAt, headerSize}
 use Rattle.paper.specs.Room.{rowAt, rowOf, marked, isAt, howManyIn, everyRecord, eachRecord, headSize, slotSize}
-use Rattle.paper.specs.Store.{InRange, headerInRange, headerZeros, rowAllowed, isStore, sizesAllowed}
+use Rattle.paper.specs.Store.{InRange, headerInRange, headerRest, rowAllowed, isStore, sizesAllowed, ruleKnown}
 use Rattle.paper.proofs.Parts.{all-before, sum-before, Keeps, onPart-length, length-part}
 use Rattle.paper.proofs.Shorter.{shorter-same, shorter-getD, shorter-be32, shorter-part, shorter-onParts, shorter-onPart}
 use Rattle.stays.proofs.Untouched.{call-untouched}
@@ -27,12 +27,13 @@ use Rattle.paper.proofs.First.{first-same}
 use Rattle.paper.specs.Number.{values, unless, number, answer, done}
 use Rattle.paper.proofs.StoreFacts.{both-true, store-facts}
 use Rattle.paper.specs.Satellite.{isSatellite}
+use Rattle.paper.specs.Word.{wordBytes}
 use Rattle.paper.specs.Time.{isTime, isStart, startOf}
-use Rattle.paper.specs.Ask.{stepsBack, someEnough, enoughSlot, rowBack, answeringRow, answeringRecord, timeBefore}
+use Rattle.paper.specs.Ask.{stepsBack, someEnough, ageUnknown, enoughSlot, rowBack, answeringRow, answeringRecord, timeBefore}
 use Rattle.paper.proofs.Order.{unless-zero}
 use Rattle.paper.specs.Reset.{reset}
 use Rattle.paper.specs.Parts.{onPart, part, onParts}
-use Rattle.paper.specs.Feed.{currentMarked, fedCurrent, moves, nextRow, copied, advanced, markedAt, fedRow, agedRow, settled, fed}
+use Rattle.paper.specs.Feed.{currentMarked, fedCurrent, moves, comesEarlier, risesBy, nextRow, copied, advanced, markedAt, fedRow, agedRow, settled, fed}
 use Rattle.paper.proofs.WordViews.{nextRow-lt, advanced-facts, currentMarked-facts, advanced-length, currentMarked-length, advanced-header, currentMarked-header}
 use Rattle.paper.proofs.Lengths.{keeps-markedAt, keeps-fedRow, keeps-agedRow, keeps-credited, keeps-withCount, keeps-blankRow}
 use Rattle.paper.specs.Fresh.{fresh, header, blankRow}
@@ -50,14 +51,14 @@ module _ (k : ℕ) (room : List ℕ) (g : k ≤ length room) (h : roomSize (dept
       rw (same-header slotsAt (omega arith)) (shorter-part k room (rowAt (slots room) r) (rowSize (slots room)) (omega (arith, row-fits (depth room) (slots room) r j)))
 
   same-store : isStore (take k room) ≡ isStore room
-  unfolding isStore headerInRange headerZeros
+  unfolding isStore headerInRange headerRest
   same-store =
       rw (
         same-header depthAt (omega arith),
         same-header slotsAt (omega arith),
         same-header currentAt (omega arith),
-        same-header zerosAt (omega arith),
-        shorter-be32 k room (zerosAt + 1) (omega arith),
+        same-header ruleAt (omega arith),
+        shorter-be32 k room zerosAt (omega arith),
         long,
         le-leb headerSize k (omega arith),
         le-leb headerSize (length room) (omega arith),
@@ -169,23 +170,24 @@ module _ (k : ℕ) (room : List ℕ) (g : k ≤ length room) (h : roomSize (dept
       unfolding answeringRecord
       same-answering-record = rw (same-answering-row, same-header slotsAt (omega arith))
 
-  -- "Asking 3, 4, 12, 7"
+  -- "Asking 3, 4, 12, 24, 7"
   module _ (f : Family) (sat : ℕ) where
     rest : List ℕ → ℕ
     rest x =
         unless (isSatellite sat) 4
-        (unless (someEnough f sat x) 12 (unless (eqb (number (timeBefore f (answeringRow f sat x) (answeringRecord f sat x))) 0) 7 0))
+        (unless (someEnough f sat x) 12
+        (unless (not (ageUnknown f sat x)) 24 (unless (eqb (number (timeBefore f (answeringRow f sat x) (answeringRecord f sat x))) 0) 7 0)))
 
     same-ask-number : askNumber f sat (take k room) ≡ askNumber f sat room
-    unfolding askNumber rest
+    unfolding askNumber ageUnknown rest
     same-ask-number = rw same-store (go (isStore room) refl)
       where
         late : List ℕ → ℕ
-        late x = unless (eqb (number (timeBefore f (answeringRow f sat x) (answeringRecord f sat x))) 0) 7 0
+        late x = unless (not (ageUnknown f sat x)) 24 (unless (eqb (number (timeBefore f (answeringRow f sat x) (answeringRecord f sat x))) 0) 7 0)
 
         some : (F : InRange room) (b : Bool) → someEnough f sat room ≡ b → unless b 12 (late (take k room)) ≡ unless b 12 (late room)
         some F false e = refl
-        some F true e = rw (same-answering-row F f sat e, same-answering-record F f sat e)
+        some F true e = rw (same-header ruleAt (omega arith), same-answering-row F f sat e, same-answering-record F f sat e)
 
         go : (b : Bool) → isStore room ≡ b → unless b 3 (rest (take k room)) ≡ unless b 3 (rest room)
         go false e = refl
@@ -274,6 +276,14 @@ module _ (k : ℕ) where
     unfolding moves
     same-moves w t = rw (as-header currentAt (omega arith), same-row k room (H .inside) (H .holds) (current room) (H .range .inRing))
 
+    same-rise : (w t : ℕ) → risesBy w t (take k room) ≡ risesBy w t room
+    unfolding risesBy
+    same-rise w t = rw (as-header ruleAt (omega arith), as-header currentAt (omega arith), same-row k room (H .inside) (H .holds) (current room) (H .range .inRing))
+
+    same-earlier : (w t : ℕ) → comesEarlier w t (take k room) ≡ comesEarlier w t room
+    unfolding comesEarlier
+    same-earlier w t = rw (as-header ruleAt (omega arith), as-header currentAt (omega arith), same-row k room (H .inside) (H .holds) (current room) (H .range .inRing))
+
     next : ℕ
     next = nextRow (depth room) (current room)
 
@@ -308,22 +318,22 @@ module _ (k : ℕ) where
         onPart-length (λ (_ : List ℕ). records) (slots room * slotSize) keeps-records (rowAt (slots room) next + headSize) room
         (omega (arith, next-fits, H .inside))
 
-    alike-advanced : Alike advanced room
+    alike-advanced : (by : ℕ) → Alike (advanced by) room
     unfolding advanced copy next
-    alike-advanced =
+    alike-advanced by =
         rw (as-header slotsAt (omega arith), as-header currentAt (omega arith), as-header depthAt (omega arith), alike-copied)
-        (ap (onPart (agedRow (slots room)) (rowAt (slots room) next) (rowSize (slots room)))
+        (ap (onPart (agedRow by (slots room)) (rowAt (slots room) next) (rowSize (slots room)))
         (sym (take-set-lt k (copy room) currentAt next (omega (arith, H .holds))))
-        ∙ shorter-onPart (agedRow (slots room)) (rowSize (slots room)) (keeps-agedRow (slots room)) k (rowAt (slots room) next) (set (copy room) currentAt next)
+        ∙ shorter-onPart (agedRow by (slots room)) (rowSize (slots room)) (keeps-agedRow by (slots room)) k (rowAt (slots room) next) (set (copy room) currentAt next)
         next-fits (rw (length-set (copy room) currentAt next, length-copied) (H .inside)))
 
   -- the ring, and then the word
-  advanced-holds : (room : List ℕ) → Holds room → Holds (advanced room)
-  advanced-holds room H =
+  advanced-holds : (by : ℕ) (room : List ℕ) → Holds room → Holds (advanced by room)
+  advanced-holds by room H =
       record {
-        range = advanced-facts room (H .range);
-        inside = rw (advanced-length room (H .range)) (H .inside);
-        holds = rw (advanced-header room (H .range) depthAt (omega arith) (omega arith), advanced-header room (H .range) slotsAt (omega arith) (omega arith)) (H .holds);
+        range = advanced-facts room (H .range) by;
+        inside = rw (advanced-length room (H .range) by) (H .inside);
+        holds = rw (advanced-header room (H .range) by depthAt (omega arith) (omega arith), advanced-header room (H .range) by slotsAt (omega arith) (omega arith)) (H .holds);
       }
 
   marked-holds : (w t : ℕ) (room : List ℕ) → Holds room → Holds (currentMarked w t room)
@@ -336,22 +346,22 @@ module _ (k : ℕ) where
 
   module _ (w t : ℕ) (room : List ℕ) (H : Holds room) where
     reached : Bool → List ℕ → List ℕ
-    reached b x = cond b (advanced x) x
+    reached b x = cond b (advanced (risesBy w t room) x) x
 
     alike-reached : (b : Bool) → Alike (reached b) room
     unfolding reached
-    alike-reached true = alike-advanced room H
+    alike-reached true = alike-advanced room H (risesBy w t room)
     alike-reached false = refl
 
     reached-holds : (b : Bool) → Holds (reached b room)
     unfolding reached
-    reached-holds true = advanced-holds room H
+    reached-holds true = advanced-holds (risesBy w t room) room H
     reached-holds false = H
 
     alike-settled : Alike (settled w t) room
     unfolding settled reached
     alike-settled =
-        rw (same-moves room H w t) (ap (currentMarked w t) (alike-reached (moves w t room)) ∙ alike-marked (reached (moves w t room) room) (reached-holds (moves w t room)) w t)
+        rw (same-moves room H w t, same-rise room H w t) (ap (currentMarked w t) (alike-reached (moves w t room)) ∙ alike-marked (reached (moves w t room) room) (reached-holds (moves w t room)) w t)
 
     settled-holds : Holds (settled w t room)
     unfolding settled reached
@@ -362,14 +372,14 @@ module _ (k : ℕ) where
     alike-fed sat band word = ap (fedCurrent sat band word) alike-settled ∙ alike-current (settled w t room) settled-holds sat band word
 
   -- a fresh store, on any room
-  alike-fresh : (d n : ℕ) (room : List ℕ) → roomSize d n ≤ k → k ≤ length room → Alike (fresh d n) room
+  alike-fresh : (d n rule : ℕ) (room : List ℕ) → roomSize d n ≤ k → k ≤ length room → Alike (fresh d n rule) room
   unfolding fresh
-  alike-fresh d n room h g =
-      let keep : Keeps (λ (_ : List ℕ). header d n) headerSize = λ r l. refl in
-      let first = shorter-onPart (λ (_ : List ℕ). header d n) headerSize keep k 0 room (omega arith) g in
+  alike-fresh d n rule room h g =
+      let keep : Keeps (λ (_ : List ℕ). header d n rule) headerSize = λ r l. refl in
+      let first = shorter-onPart (λ (_ : List ℕ). header d n rule) headerSize keep k 0 room (omega arith) g in
       ap (onParts (blankRow n) (rowSize n) d headerSize) first
-      ∙ shorter-onParts (blankRow n) (rowSize n) (keeps-blankRow n) k d headerSize (onPart (λ (_ : List ℕ). header d n) 0 headerSize room) h
-      (rw (onPart-length (λ (_ : List ℕ). header d n) headerSize keep 0 room (omega arith)) g)
+      ∙ shorter-onParts (blankRow n) (rowSize n) (keeps-blankRow n) k d headerSize (onPart (λ (_ : List ℕ). header d n rule) 0 headerSize room) h
+      (rw (onPart-length (λ (_ : List ℕ). header d n rule) headerSize keep 0 room (omega arith)) g)
 
 -- ---- the answer, the part and the room of a call, by its number
 answer-same : (n : ℕ) (v v' : List ℕ) → (n ≡ 0 → v ≡ v') → answer n v ≡ answer n v'
@@ -395,9 +405,9 @@ tag-row sat kind cop l status w t given verdict room e =
     (both-true (ltb (candidateRow w t room) (depth room)) (ltb (candidateSlot (familyOf kind) sat w t room) (slots room)) (a .0) .0)
 
 -- a number 0 says that the room is a store
-feed-store : (word : List ℕ) (sat t band : ℕ) (room : List ℕ) → feedNumber word sat t band room ≡ 0 → isStore room ≡ true
+feed-store : (word : List ℕ) (sat w t band : ℕ) (room : List ℕ) → feedNumber word sat w t band room ≡ 0 → isStore room ≡ true
 unfolding feedNumber
-feed-store word sat t band room e = unless-zero (isStore room) 3 _ (omega arith) e .0
+feed-store word sat w t band room e = unless-zero (isStore room) 3 _ (omega arith) e .0
 
 tag-store : (sat kind cop l status w t : ℕ) (given : List ℕ) (verdict : Bool) (room : List ℕ)
     → tagNumber sat kind cop l status w t given verdict room ≡ 0 → isStore room ≡ true
@@ -410,7 +420,7 @@ reset-store room e = unless-zero (isStore room) 3 _ (omega arith) e .0
 
 -- a call writes no further than it goes by, and the refused call changes nothing
 reach-goesBy : (c : Call) (room : List ℕ) (k : ℕ) → goesBy c room ≤ k → reach c room ≤ k
-reach-goesBy (freshCall d n) room k h = h
+reach-goesBy (freshCall d n rule) room k h = h
 reach-goesBy (feedCall word sat w t band) room k h = h
 reach-goesBy (tagCall sat kind cop l status w t given verdict) room k h = h
 reach-goesBy (candidateCall sat kind cop w t) room k h = omega arith
@@ -422,27 +432,37 @@ unfolding roomAfter freshRoom freshNumber
 refused-call room = refl
 
 module _ (k : ℕ) (room : List ℕ) (g : k ≤ length room) where
-  feed-number-same : (word : List ℕ) (sat t band : ℕ) → roomSize (depth room) (slots room) ≤ k
-      → feedNumber word sat t band (take k room) ≡ feedNumber word sat t band room
+  holding : isStore room ≡ true → roomSize (depth room) (slots room) ≤ k → Holds k room
+  holding s h = record { range = store-facts room s; inside = g; holds = h }
+
+  feed-number-same : (word : List ℕ) (sat w t band : ℕ) → roomSize (depth room) (slots room) ≤ k
+      → feedNumber word sat w t band (take k room) ≡ feedNumber word sat w t band room
   unfolding feedNumber
-  feed-number-same word sat t band h = rw (same-store k room g h)
+  feed-number-same word sat w t band h = rw (same-store k room g h) (go (isStore room) refl)
+    where
+      rest : List ℕ → ℕ
+      rest x =
+          unless (isSatellite sat) 4
+          (unless (isTime t) 5
+          (unless (eqb (length word) wordBytes) 8 (unless (leb band 1) 9 (unless (not (comesEarlier w (startOf t) x)) 15 0))))
+
+      go : (b : Bool) → isStore room ≡ b → unless b 3 (rest (take k room)) ≡ unless b 3 (rest room)
+      go false e = refl
+      go true e = rw (same-earlier k room (holding e h) w (startOf t))
 
   reset-number-same : roomSize (depth room) (slots room) ≤ k → resetNumber (take k room) ≡ resetNumber room
   unfolding resetNumber
   reset-number-same h = rw (same-store k room g h)
 
-  fresh-number-same : (d n : ℕ) → roomSize d n ≤ k → freshNumber d n (take k room) ≡ freshNumber d n room
+  fresh-number-same : (d n rule : ℕ) → roomSize d n ≤ k → freshNumber d n rule (take k room) ≡ freshNumber d n rule room
   unfolding freshNumber
-  fresh-number-same d n h = rw (length-take-le k room g, le-leb (roomSize d n) k h, le-leb (roomSize d n) (length room) (omega arith))
-
-  holding : isStore room ≡ true → roomSize (depth room) (slots room) ≤ k → Holds k room
-  holding s h = record { range = store-facts room s; inside = g; holds = h }
+  fresh-number-same d n rule h = rw (length-take-le k room g, le-leb (roomSize d n) k h, le-leb (roomSize d n) (length room) (omega arith))
 
   -- on the first k bytes a call answers the same
   pub same-answer : (c : Call) → goesBy c room ≤ k → answerTo c (take k room) ≡ answerTo c room
-  unfolding answerTo tagAnswer askAnswer feedNumber resetNumber candidateNumber
-  same-answer (freshCall d n) h = rw (fresh-number-same d n h)
-  same-answer (feedCall word sat w t band) h = rw (same-store k room g h)
+  unfolding answerTo tagAnswer askAnswer resetNumber candidateNumber
+  same-answer (freshCall d n rule) h = rw (fresh-number-same d n rule h)
+  same-answer (feedCall word sat w t band) h = rw (feed-number-same word sat w t band h)
   same-answer (tagCall sat kind cop l status w t given verdict) h =
       rw (same-tag-number k room g h sat kind cop l status w t given verdict)
       (answer-same (tagNumber sat kind cop l status w t given verdict room) _ _
@@ -460,7 +480,7 @@ module _ (k : ℕ) (room : List ℕ) (g : k ≤ length room) where
   -- hands out the same
   pub same-part : (c : Call) → goesBy c room ≤ k → partTo c (take k room) ≡ partTo c room
   unfolding partTo candidateData askData candidateNumber
-  same-part (freshCall d n) h = refl
+  same-part (freshCall d n rule) h = refl
   same-part (feedCall word sat w t band) h = refl
   same-part (tagCall sat kind cop l status w t given verdict) h = refl
   same-part (candidateCall sat kind cop w t) h =
@@ -476,12 +496,12 @@ module _ (k : ℕ) (room : List ℕ) (g : k ≤ length room) where
   -- and leaves the same first k bytes
   pub same-room : (c : Call) → goesBy c room ≤ k → roomAfter c (take k room) ≡ take k (roomAfter c room)
   unfolding roomAfter freshRoom feedRoom tagRoom resetRoom
-  same-room (freshCall d n) h =
-      rw (fresh-number-same d n h) (room-same k (freshNumber d n room) _ _ room (λ e. alike-fresh k d n room h g))
+  same-room (freshCall d n rule) h =
+      rw (fresh-number-same d n rule h) (room-same k (freshNumber d n rule room) _ _ room (λ e. alike-fresh k d n rule room h g))
   same-room (feedCall word sat w t band) h =
-      rw (feed-number-same word sat t band h)
-      (room-same k (feedNumber word sat t band room) _ _ room
-      (λ e. alike-fed k w (startOf t) room (holding (feed-store word sat t band room e) h) sat band word))
+      rw (feed-number-same word sat w t band h)
+      (room-same k (feedNumber word sat w t band room) _ _ room
+      (λ e. alike-fed k w (startOf t) room (holding (feed-store word sat w t band room e) h) sat band word))
   same-room (tagCall sat kind cop l status w t given verdict) h =
       rw (same-tag-number k room g h sat kind cop l status w t given verdict)
       (room-same k (tagNumber sat kind cop l status w t given verdict room) _ _ room
@@ -512,9 +532,9 @@ module _ (k : ℕ) (room : List ℕ) (g : k ≤ length room) where
 
   pub short-room : (c : Call) → k < goesBy c room → roomAfter c (take k room) ≡ take k room
   unfolding roomAfter freshRoom feedRoom tagRoom resetRoom freshNumber feedNumber tagNumber untilCandidate resetNumber
-  short-room (freshCall d n) h = rw (length-take-le k room g, lt-leb (roomSize d n) k h) (go (sizesAllowed d n))
+  short-room (freshCall d n rule) h = rw (length-take-le k room g, lt-leb (roomSize d n) k h) (go (sizesAllowed d n && ruleKnown rule))
     where
-      go : (b : Bool) → roomFor (unless b 1 2) (fresh d n (take k room)) (take k room) ≡ take k room
+      go : (b : Bool) → roomFor (unless b 1 2) (fresh d n rule (take k room)) (take k room) ≡ take k room
       go true = refl
       go false = refl
   short-room (feedCall word sat w t band) h = rw (short-store h)

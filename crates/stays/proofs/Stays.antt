@@ -10,20 +10,21 @@ use lib.Dec.{eqb, leb}
 use lib.ListN.{length}
 use Rattle.paper.specs.Record.{Family}
 use Rattle.paper.specs.Room.{roomSize}
-use Rattle.paper.specs.Store.{sizesAllowed, isStore}
+use Rattle.paper.specs.Store.{sizesAllowed, ruleKnown, isStore}
 use Rattle.paper.specs.Tag.{familyOf, kindKnown, statusKnown, copAllowed, lengthAllowed, statusAdds, thirtyBefore, candidateRecord, hasCandidate, givenAgrees}
 use Rattle.paper.specs.Satellite.{isSatellite}
 use Rattle.paper.specs.Number.{number, unless, answer}
 use Rattle.paper.specs.Answer.{freshNumber, feedNumber, untilCandidate, tagNumber, tagAnswer, candidateNumber, askNumber, askAnswer, resetNumber}
 use Rattle.paper.specs.Call.{Call, freshCall, feedCall, tagCall, candidateCall, askCall, resetCall, answerTo, roomAfter, run}
-use Rattle.paper.specs.Time.{isTime, isStart}
-use Rattle.paper.specs.Ask.{someEnough, timeBefore, answeringRow, answeringRecord}
+use Rattle.paper.specs.Time.{isTime, isStart, startOf}
+use Rattle.paper.specs.Feed.{comesEarlier}
+use Rattle.paper.specs.Ask.{someEnough, ageUnknown, timeBefore, answeringRow, answeringRecord}
 use Rattle.stays.proofs.Rooms.{fresh-stores, fresh-stays, feed-stays, tag-stays, reset-stays}
 
 -- ---- the room
 pub call-stays : (c : Call) (room : List ℕ) → isStore room ≡ true → isStore (roomAfter c room) ≡ true
 unfolding roomAfter
-call-stays (freshCall d n) room s = fresh-stays d n room s
+call-stays (freshCall d n rule) room s = fresh-stays d n rule room s
 call-stays (feedCall word sat w t band) room s = feed-stays word sat w t band room s
 call-stays (tagCall sat kind cop l status w t given verdict) room s = tag-stays sat kind cop l status w t given verdict room s
 call-stays (candidateCall sat kind cop w t) room s = s
@@ -57,18 +58,19 @@ number-answer (suc k) v = refl
 answer-not3 : (k : ℕ) (v : List ℕ) → k ≢ 3 → number (answer k v) ≢ 3
 answer-not3 k v h = rw (number-answer k v) h
 
-fresh-not3 : (d n : ℕ) (room : List ℕ) → freshNumber d n room ≢ 3
+fresh-not3 : (d n rule : ℕ) (room : List ℕ) → freshNumber d n rule room ≢ 3
 unfolding freshNumber
-fresh-not3 d n room =
-    unless-not3 (sizesAllowed d n) 1 _ (omega arith) (unless-not3 (leb (roomSize d n) (length room)) 2 0 (omega arith) (omega arith))
+fresh-not3 d n rule room =
+    unless-not3 (sizesAllowed d n && ruleKnown rule) 1 _ (omega arith) (unless-not3 (leb (roomSize d n) (length room)) 2 0 (omega arith) (omega arith))
 
-feed-not3 : (word : List ℕ) (sat t band : ℕ) (room : List ℕ) → isStore room ≡ true → feedNumber word sat t band room ≢ 3
+feed-not3 : (word : List ℕ) (sat w t band : ℕ) (room : List ℕ) → isStore room ≡ true → feedNumber word sat w t band room ≢ 3
 unfolding feedNumber
-feed-not3 word sat t band room s =
+feed-not3 word sat w t band room s =
     store-not3 room _ s
     (unless-not3 (isSatellite sat) 4 _ (omega arith)
     (unless-not3 (isTime t) 5 _ (omega arith)
-    (unless-not3 (eqb (length word) 16) 8 _ (omega arith) (unless-not3 (leb band 1) 9 0 (omega arith) (omega arith)))))
+    (unless-not3 (eqb (length word) 16) 8 _ (omega arith)
+    (unless-not3 (leb band 1) 9 _ (omega arith) (unless-not3 (not (comesEarlier w (startOf t) room)) 15 0 (omega arith) (omega arith))))))
 
 candidate-not3 : (allowed known : Bool) (sat kind cop w t : ℕ) (room : List ℕ) (later : ℕ) → isStore room ≡ true → later ≢ 3
     → untilCandidate allowed known sat kind cop w t room later ≢ 3
@@ -97,13 +99,14 @@ ask-not3 f sat room s =
     store-not3 room _ s
     (unless-not3 (isSatellite sat) 4 _ (omega arith)
     (unless-not3 (someEnough f sat room) 12 _ (omega arith)
-    (unless-not3 (eqb (number (timeBefore f (answeringRow f sat room) (answeringRecord f sat room))) 0) 7 0 (omega arith) (omega arith))))
+    (unless-not3 (not (ageUnknown f sat room)) 24 _ (omega arith)
+    (unless-not3 (eqb (number (timeBefore f (answeringRow f sat room) (answeringRecord f sat room))) 0) 7 0 (omega arith) (omega arith)))))
 
 -- on a store no call is answered 3
 pub store-never-3 : (c : Call) (room : List ℕ) → isStore room ≡ true → number (answerTo c room) ≢ 3
 unfolding answerTo tagAnswer candidateNumber askAnswer resetNumber
-store-never-3 (freshCall d n) room s = answer-not3 (freshNumber d n room) _ (fresh-not3 d n room)
-store-never-3 (feedCall word sat w t band) room s = answer-not3 (feedNumber word sat t band room) _ (feed-not3 word sat t band room s)
+store-never-3 (freshCall d n rule) room s = answer-not3 (freshNumber d n rule room) _ (fresh-not3 d n rule room)
+store-never-3 (feedCall word sat w t band) room s = answer-not3 (feedNumber word sat w t band room) _ (feed-not3 word sat w t band room s)
 store-never-3 (tagCall sat kind cop l status w t given verdict) room s =
     answer-not3 (tagNumber sat kind cop l status w t given verdict room) _ (tag-not3 sat kind cop l status w t given verdict room s)
 store-never-3 (candidateCall sat kind cop w t) room s =
@@ -113,13 +116,13 @@ store-never-3 (askCall f sat) room s = answer-not3 (askNumber f sat room) _ (ask
 store-never-3 resetCall room s = answer-not3 (unless (isStore room) 3 0) _ (store-not3 room 0 s (omega arith))
 
 -- ---- from a fresh call that succeeded, after any calls, the latest first
-module _ (d n : ℕ) (room : List ℕ) (made : number (answerTo (freshCall d n) room) ≡ 0) where
-  made-store : isStore (roomAfter (freshCall d n) room) ≡ true
+module _ (d n rule : ℕ) (room : List ℕ) (made : number (answerTo (freshCall d n rule) room) ≡ 0) where
+  made-store : isStore (roomAfter (freshCall d n rule) room) ≡ true
   unfolding answerTo roomAfter
-  made-store = fresh-stores d n room (sym (number-answer (freshNumber d n room) []) ∙ made)
+  made-store = fresh-stores d n rule room (sym (number-answer (freshNumber d n rule room) []) ∙ made)
 
-  pub run-stays : (calls : List Call) → isStore (run (roomAfter (freshCall d n) room) calls) ≡ true
-  run-stays calls = calls-stay calls (roomAfter (freshCall d n) room) made-store
+  pub run-stays : (calls : List Call) → isStore (run (roomAfter (freshCall d n rule) room) calls) ≡ true
+  run-stays calls = calls-stay calls (roomAfter (freshCall d n rule) room) made-store
 
-  pub run-never-3 : (calls : List Call) (c : Call) → number (answerTo c (run (roomAfter (freshCall d n) room) calls)) ≢ 3
-  run-never-3 calls c = store-never-3 c (run (roomAfter (freshCall d n) room) calls) (run-stays calls)
+  pub run-never-3 : (calls : List Call) (c : Call) → number (answerTo c (run (roomAfter (freshCall d n rule) room) calls)) ≢ 3
+  run-never-3 calls c = store-never-3 c (run (roomAfter (freshCall d n rule) room) calls) (run-stays calls)

@@ -23,9 +23,9 @@ use Rattle.stays.proofs.Rooms.{room-for, fresh-allowed}
 use Rattle.stays.specs.Lent.{reach, MakesWithin, MakeWithin}
 
 -- what a number 0 says first: the room is a store
-word-lent : (word : List ℕ) (sat t band : ℕ) (room : List ℕ) → feedNumber word sat t band room ≡ 0 → InRange room
+word-lent : (word : List ℕ) (sat w t band : ℕ) (room : List ℕ) → feedNumber word sat w t band room ≡ 0 → InRange room
 unfolding feedNumber
-word-lent word sat t band room e = store-facts room (unless-zero (isStore room) 3 _ (omega arith) e .0)
+word-lent word sat w t band room e = store-facts room (unless-zero (isStore room) 3 _ (omega arith) e .0)
 
 tag-lent : (sat kind cop l status w t : ℕ) (given : List ℕ) (verdict : Bool) (room : List ℕ) → tagNumber sat kind cop l status w t given verdict room ≡ 0 → InRange room
 unfolding tagNumber untilCandidate
@@ -38,13 +38,13 @@ reset-lent room e = store-facts room (unless-zero (isStore room) 3 0 (omega arit
 -- nothing past the reach of a call changes
 pub call-untouched : (c : Call) (room : List ℕ) (k : ℕ) → reach c room ≤ k → drop k (roomAfter c room) ≡ drop k room
 unfolding roomAfter freshRoom feedRoom tagRoom resetRoom
-call-untouched (freshCall d n) room k h =
-    room-for (λ (x : List ℕ). drop k x ≡ drop k room) (freshNumber d n room) (fresh d n room) room
-    (λ e. fresh-past d n room (fresh-allowed d n room e .1) k h)
+call-untouched (freshCall d n rule) room k h =
+    room-for (λ (x : List ℕ). drop k x ≡ drop k room) (freshNumber d n rule room) (fresh d n rule room) room
+    (λ e. fresh-past d n rule room (fresh-allowed d n rule room e .1) k h)
     refl
 call-untouched (feedCall word sat w t band) room k h =
-    room-for (λ (x : List ℕ). drop k x ≡ drop k room) (feedNumber word sat t band room) (fed w (startOf t) sat band word room) room
-    (λ e. fed-past w (startOf t) sat band word room (word-lent word sat t band room e) k h)
+    room-for (λ (x : List ℕ). drop k x ≡ drop k room) (feedNumber word sat w t band room) (fed w (startOf t) sat band word room) room
+    (λ e. fed-past w (startOf t) sat band word room (word-lent word sat w t band room e) k h)
     refl
 call-untouched (tagCall sat kind cop l status w t given verdict) room k h =
     room-for (λ (x : List ℕ). drop k x ≡ drop k room) (tagNumber sat kind cop l status w t given verdict room)
@@ -59,13 +59,13 @@ call-untouched resetCall room k h =
 -- the room is as long as it was
 pub call-length : (c : Call) (room : List ℕ) → length (roomAfter c room) ≡ length room
 unfolding roomAfter freshRoom feedRoom tagRoom resetRoom
-call-length (freshCall d n) room =
-    room-for (λ (x : List ℕ). length x ≡ length room) (freshNumber d n room) (fresh d n room) room
-    (λ e. fresh-length d n room (fresh-allowed d n room e .1))
+call-length (freshCall d n rule) room =
+    room-for (λ (x : List ℕ). length x ≡ length room) (freshNumber d n rule room) (fresh d n rule room) room
+    (λ e. fresh-length d n rule room (fresh-allowed d n rule room e .1))
     refl
 call-length (feedCall word sat w t band) room =
-    room-for (λ (x : List ℕ). length x ≡ length room) (feedNumber word sat t band room) (fed w (startOf t) sat band word room) room
-    (λ e. fed-length w (startOf t) sat band word room (word-lent word sat t band room e))
+    room-for (λ (x : List ℕ). length x ≡ length room) (feedNumber word sat w t band room) (fed w (startOf t) sat band word room) room
+    (λ e. fed-length w (startOf t) sat band word room (word-lent word sat w t band room e))
     refl
 call-length (tagCall sat kind cop l status w t given verdict) room =
     room-for (λ (x : List ℕ). length x ≡ length room) (tagNumber sat kind cop l status w t given verdict room)
@@ -92,16 +92,16 @@ same-end k x y d n h = rw (d, n) h
 
 call-within : (c : Call) (room : List ℕ) (k : ℕ) → MakesWithin k c → Within k room → Within k (roomAfter c room)
 unfolding roomAfter freshRoom feedRoom tagRoom resetRoom
-call-within (freshCall d n) room k m h =
-    room-for (Within k) (freshNumber d n room) (fresh d n room) room
+call-within (freshCall d n rule) room k m h =
+    room-for (Within k) (freshNumber d n rule room) (fresh d n rule room) room
     (λ e.
-    let fits = fresh-allowed d n room e .1 in
-    rw (fresh-depth d n room fits, fresh-slots d n room fits) m)
+    let fits = fresh-allowed d n rule room e .1 in
+    rw (fresh-depth d n rule room fits, fresh-slots d n rule room fits) m)
     h
 call-within (feedCall word sat w t band) room k m h =
-    room-for (Within k) (feedNumber word sat t band room) (fed w (startOf t) sat band word room) room
+    room-for (Within k) (feedNumber word sat w t band room) (fed w (startOf t) sat band word room) room
     (λ e.
-    let F = word-lent word sat t band room e in
+    let F = word-lent word sat w t band room e in
     same-end k room (fed w (startOf t) sat band word room)
     (fed-header w (startOf t) sat band word room F depthAt (omega arith) (omega arith))
     (fed-header w (startOf t) sat band word room F slotsAt (omega arith) (omega arith))
@@ -125,7 +125,7 @@ call-within resetCall room k m h =
     h
 
 reach-within : (c : Call) (room : List ℕ) (k : ℕ) → MakesWithin k c → Within k room → reach c room ≤ k
-reach-within (freshCall d n) room k m h = m
+reach-within (freshCall d n rule) room k m h = m
 reach-within (feedCall word sat w t band) room k m h = h
 reach-within (tagCall sat kind cop l status w t given verdict) room k m h = h
 reach-within (candidateCall sat kind cop w t) room k m h = omega arith

@@ -8,7 +8,7 @@ use Rattle.paper.specs.Call.{Call, freshCall, feedCall, tagCall, candidateCall,
 
 -- a call whose week is two bytes
 abbrev pub WeekFits : Call → Type 0
-WeekFits (freshCall d n) = Unit {0}
+WeekFits (freshCall d n rule) = Unit {0}
 WeekFits (feedCall word sat w t band) = w < 65536
 WeekFits (tagCall sat kind cop l status w t given verdict) = Unit {0}
 WeekFits (candidateCall sat kind cop w t) = Unit {0}
@@ -22,7 +22,7 @@ WeeksFit (c ∷ before) = WeekFits c × WeeksFit before
 
 -- how far a call may write: to the end of the store that it makes, or of the one that it is lent
 abbrev pub reach : Call → List ℕ → ℕ
-reach (freshCall d n) room = roomSize d n
+reach (freshCall d n rule) room = roomSize d n
 reach (feedCall word sat w t band) room = roomSize (depth room) (slots room)
 reach (tagCall sat kind cop l status w t given verdict) room = roomSize (depth room) (slots room)
 reach (candidateCall sat kind cop w t) room = 0
@@ -31,7 +31,7 @@ reach resetCall room = roomSize (depth room) (slots room)
 
 -- how many bytes a call goes by: those of the store that it makes, or of the one that it is lent
 abbrev pub goesBy : Call → List ℕ → ℕ
-goesBy (freshCall d n) room = roomSize d n
+goesBy (freshCall d n rule) room = roomSize d n
 goesBy (feedCall word sat w t band) room = roomSize (depth room) (slots room)
 goesBy (tagCall sat kind cop l status w t given verdict) room = roomSize (depth room) (slots room)
 goesBy (candidateCall sat kind cop w t) room = roomSize (depth room) (slots room)
@@ -40,7 +40,7 @@ goesBy resetCall room = roomSize (depth room) (slots room)
 
 -- a call that is refused on any room
 abbrev pub refusedCall : Call
-refusedCall = freshCall 0 0
+refusedCall = freshCall 0 0 0
 
 -- a call that is lent the first k bytes of a room, as the whole room sees it: refused, if it goes by more
 unfoldable pub onWhole : ℕ → Call → List ℕ → Call
@@ -48,7 +48,7 @@ onWhole k c room = cond (leb (goesBy c room) k) c refusedCall
 
 -- a call that makes no store longer than k
 abbrev pub MakesWithin : ℕ → Call → Type 0
-MakesWithin k (freshCall d n) = roomSize d n ≤ k
+MakesWithin k (freshCall d n rule) = roomSize d n ≤ k
 MakesWithin k (feedCall word sat w t band) = Unit {0}
 MakesWithin k (tagCall sat kind cop l status w t given verdict) = Unit {0}
 MakesWithin k (candidateCall sat kind cop w t) = Unit {0}

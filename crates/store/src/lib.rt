@@ -10,7 +10,7 @@ ghost use Rattle.paper.specs.Parts.{allParts};
 ghost use Rattle.paper.specs.Record.{Family, agesAt, size, satellite, count};
 ghost use Rattle.paper.specs.Room.{headerSize, headSize, slotSize, rowSize, roomSize};
 ghost use Rattle.store.specs.Slot.{isEmpty, isShared, isPlain};
-ghost use Rattle.paper.specs.Store.{headerInRange, headerZeros, recordAllowed, slotAllowed, markAllowed, subframeAllowed, blankAllowed, rowAllowed, isStore};
+ghost use Rattle.paper.specs.Store.{headerInRange, headerRest, recordAllowed, slotAllowed, markAllowed, subframeAllowed, blankAllowed, rowAllowed, isStore};
 use gst::LAST_START;
 use gst::SUBFRAME_SECONDS;
 use layout::CURRENT_AT;
@@ -19,6 +19,7 @@ use layout::HEADER;
 use layout::MARK_AT;
 use layout::MARKED;
 use layout::ROW_HEAD;
+use layout::RULE_AT;
 use layout::SLOT;
 use layout::SLOTS_AT;
 use layout::SPARE_AT;
@@ -30,9 +31,6 @@ use records::COUNT_AT;
 use records::LAST_WEIGHT;
 use records::SATELLITE_AT;
 use svn::MOST_SATELLITES;
-
-// The first of the header's zeros, and behind it four more.
-const LAST_ZEROS_AT: usize = ZEROS_AT + 1;
 
 // The satellite of the timing record, as a byte of the slot.
 const TIMING_SATELLITE: usize = TIMING_AT + SATELLITE_AT;
@@ -52,14 +50,14 @@ fn header_in_range(room: &[u8]) -> bool
     room[CURRENT_AT] < room[DEPTH_AT]
 }
 
-fn header_zeros(room: &[u8]) -> bool
+fn header_rest(room: &[u8]) -> bool
     requires { ⌜ headerSize ≤ length (now room) ⌝ }
-    ensures { λ r. ⌜ r ≡ headerZeros (now (room .entry)) ⌝ }
+    ensures { λ r. ⌜ r ≡ headerRest (now (room .entry)) ⌝ }
 {
-    if room[ZEROS_AT] != 0 {
+    if !limits::rule_known(room[RULE_AT]) {
         return false;
     }
-    numbers::read32(room, LAST_ZEROS_AT) == 0
+    numbers::read32(room, ZEROS_AT) == 0
 }
 
 fn known(satellite: u8, most: u8) -> bool
@@ -260,7 +258,7 @@ pub fn is_store(room: &[u8]) -> bool
     if !header_in_range(room) {
         return false;
     }
-    if !header_zeros(room) {
+    if !header_rest(room) {
         return false;
     }
     let d = rows::depth(room);

@@ -4,7 +4,8 @@ use mathlib.Core.Bool.{true}
 use native.Mathlib.Omega.{arith}
 use borrow.Author.Tests.{not-true, not-false}
 use Prim.Native.Nat.{_+_, _≤_}
-use Rattle.paper.specs.Record.{familyIf}
+use lib.ListN.{length}
+use Rattle.paper.specs.Record.{familyIf, size}
 use Rattle.paper.specs.Room.{headSize}
 use Rattle.paper.specs.Satellite.{isSatellite}
 use Rattle.paper.specs.Store.{isStore}
@@ -13,7 +14,7 @@ use Rattle.paper.proofs.StoreFacts.{store-facts}
 use Rattle.gst.proofs.Told.{refuses}
 use Rattle.gst.specs.Answer.{timeAnswer}
 use Rattle.ask.specs.Answered.{askPlace}
-use Rattle.ask.proofs.Enough.{ask-none, ask-late, ask-told, told-inside}
+use Rattle.ask.proofs.Enough.{ask-none, ask-unknown, ask-late, ask-told, told-inside}
 use borrow.Author.Needs.{needs}
 use Rattle.ask.proofs.ask.Statement.{statement}
 use Rattle.ask.proofs.ask.Tie as tie
@@ -60,56 +61,67 @@ returns-3 c =
     ask-none (familyIf (args .timing)) (args .svn .0) (args .room .now) (sym (place .answering-at .ensures) ∙ c .enum-told .given .1)
     (a-store (test .before .before)) (a-satellite test)
 
-time-before-requires : tie.Need-time-before-requires
-time-before-requires c κs =
-    let told = c .before in
-    let place = told .before .before in
+-- the row and the record that answer lie inside the room
+inside : (c : tie.After-row)
+    → let args = c .before .before .before .before .before .before .before .before .args in
+    (c .row .given .0 .0 + headSize ≤ length (args .room .now)) × (c .row .given .0 .1 .0 + size (familyIf (args .timing)) ≤ length (args .room .now))
+inside c =
+    let place = c .before .before in
     let test = place .before in
     let args = test .before .before .before .before .before .args in
-    told-inside (familyIf (args .timing)) (args .svn .0) (args .room .now) _ _ (sym (place .answering-at .ensures) ∙ told .row .given .1)
+    told-inside (familyIf (args .timing)) (args .svn .0) (args .room .now) _ _ (sym (place .answering-at .ensures) ∙ c .row .given .1)
     (store-facts _ (a-store (test .before .before)))
 
-enum-known-time : tie.Need-enum-known-time
-enum-known-time c = search needs
+age-unknown-requires : tie.Need-age-unknown-requires
+age-unknown-requires c κs =
+    let told = c .before in
+    (store-facts _ (a-store (told .before .before .before .before .before)) .long, inside told .1)
 
 returns-4 : tie.Need-returns-4
 returns-4 c =
-    let time = c .before .time-before in
     let told = c .before .before .before in
     let place = told .before .before in
     let test = place .before in
     let args = test .before .before .before .before .before .args in
-    ask-late (familyIf (args .timing)) (args .svn .0) (args .room .now) _ _ (sym (place .answering-at .ensures) ∙ told .row .given .1)
-    (a-store (test .before .before)) (a-satellite test) _ (time .ensures) (refuses (time .result) (c .match2 .keys2))
+    ask-unknown (familyIf (args .timing)) (args .svn .0) (args .room .now) _ _ (sym (place .answering-at .ensures) ∙ told .row .given .1)
+    (a-store (test .before .before)) (a-satellite test) (sym (c .if3 .taken) ∙ c .before .age-unknown .ensures)
 
-add-read16 : tie.Need-add-read16
-add-read16 c =
-    let told = c .before .before .before .before .before in
-    let place = told .before .before in
-    let test = place .before in
-    let args = test .before .before .before .before .before .args in
-    let inside = told-inside (familyIf (args .timing)) (args .svn .0) (args .room .now) _ _ (sym (place .answering-at .ensures) ∙ told .row .given .1) in
-    omega (arith, inside (store-facts _ (a-store (test .before .before))) .1)
+time-before-requires : tie.Need-time-before-requires
+time-before-requires c κs = inside (c .before .before .before)
 
-read16-requires : tie.Need-read16-requires
-read16-requires c κs =
-    let told = c .before .before .before .before .before in
-    let place = told .before .before in
-    let test = place .before in
-    let args = test .before .before .before .before .before .args in
-    let inside = told-inside (familyIf (args .timing)) (args .svn .0) (args .room .now) _ _ (sym (place .answering-at .ensures) ∙ told .row .given .1) in
-    omega (arith, inside (store-facts _ (a-store (test .before .before))) .1)
+enum-known-time : tie.Need-enum-known-time
+enum-known-time c = search needs
 
 returns-5 : tie.Need-returns-5
 returns-5 c =
+    let time = c .before .time-before in
+    let known = c .before .before in
+    let told = known .before .before .before in
+    let place = told .before .before in
+    let test = place .before in
+    let args = test .before .before .before .before .before .args in
+    ask-late (familyIf (args .timing)) (args .svn .0) (args .room .now) _ _ (sym (place .answering-at .ensures) ∙ told .row .given .1)
+    (a-store (test .before .before)) (a-satellite test) (sym (known .if3 .left) ∙ known .before .age-unknown .ensures)
+    _ (time .ensures) (refuses (time .result) (c .match2 .keys2))
+
+add-read16 : tie.Need-add-read16
+add-read16 c = omega (arith, inside (c .before .before .before .before .before .before .before) .1)
+
+read16-requires : tie.Need-read16-requires
+read16-requires c κs = omega (arith, inside (c .before .before .before .before .before .before .before) .1)
+
+returns-6 : tie.Need-returns-6
+returns-6 c =
     let time = c .before .before in
     let before = time .before .before in
-    let told = before .before .before in
+    let known = before .before in
+    let told = known .before .before .before in
     let place = told .before .before in
     let test = place .before in
     let args = test .before .before .before .before .before .args in
     ask-told (familyIf (args .timing)) (args .svn .0) (args .room .now) _ _ (sym (place .answering-at .ensures) ∙ told .row .given .1)
-    (a-store (test .before .before)) (a-satellite test) _ _ _ (c .read16 .ensures)
+    (a-store (test .before .before)) (a-satellite test) (sym (known .if3 .left) ∙ known .before .age-unknown .ensures)
+    _ _ _ (c .read16 .ensures)
     (sym (ap timeAnswer (time .time .given .1)) ∙ before .time-before .ensures)
 
 pub ask-spec : {M : Type 1} → statement M
@@ -124,9 +136,11 @@ ask-spec =
     enum-known-row
     enum-told
     returns-3
+    age-unknown-requires
+    returns-4
     time-before-requires
     enum-known-time
-    returns-4
+    returns-5
     add-read16
     read16-requires
-    returns-5)
+    returns-6)

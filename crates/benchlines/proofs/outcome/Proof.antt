@@ -56,6 +56,12 @@ fresh-requires c κs = simp (c .before .enum-told6 .given .1) at (c .before .bef
 enum-told-7 : tie.Need-enum-told-7
 enum-told-7 c = search needs
 
+fresh-ruled-requires : tie.Need-fresh-ruled-requires
+fresh-ruled-requires c κs = simp (c .before .enum-told7 .given .1) at (c .before .before .before .before .before .pre)
+
+enum-told-8 : tie.Need-enum-told-8
+enum-told-8 c = search needs
+
 same-length : tie.Need-same-length
 same-length c = search needs
 
@@ -102,9 +108,16 @@ returns-6 : tie.Need-returns-6
 unfolding run
 returns-6 c = simp (c .before .before .before .before .enum-told6 .given .1) (c .before .before .fresh .ensures)
 
+same-length-7 : tie.Need-same-length-7
+same-length-7 c = search needs
+
 returns-7 : tie.Need-returns-7
 unfolding run
-returns-7 c = simp (c .enum-told7 .given .1) (refl, refl)
+returns-7 c = simp (c .before .before .before .before .enum-told7 .given .1) (c .before .before .fresh-ruled .ensures)
+
+returns-8 : tie.Need-returns-8
+unfolding run
+returns-8 c = simp (c .enum-told8 .given .1) (refl, refl)
 
 pub outcome-spec : {M : Type 1} → statement M
 outcome-spec =
@@ -127,6 +140,8 @@ outcome-spec =
     enum-told-6
     fresh-requires
     enum-told-7
+    fresh-ruled-requires
+    enum-told-8
     same-length
     returns
     same-length-2
@@ -139,4 +154,6 @@ outcome-spec =
     returns-5
     same-length-6
     returns-6
-    returns-7)
+    same-length-7
+    returns-7
+    returns-8)

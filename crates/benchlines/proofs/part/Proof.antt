@@ -54,6 +54,12 @@ enum-told-7 c = search needs
 slice-aggregate-result-5 : tie.Need-slice-aggregate-result-5
 slice-aggregate-result-5 c = search needs
 
+enum-told-8 : tie.Need-enum-told-8
+enum-told-8 c = search needs
+
+slice-aggregate-result-6 : tie.Need-slice-aggregate-result-6
+slice-aggregate-result-6 c = search needs
+
 returns : tie.Need-returns
 unfolding wordCall tagCallOn partTo
 returns c = simp (c .before .enum-told .given .1) refl
@@ -82,6 +88,10 @@ returns-7 : tie.Need-returns-7
 unfolding wordCall tagCallOn partTo
 returns-7 c = simp (c .before .enum-told7 .given .1) refl
 
+returns-8 : tie.Need-returns-8
+unfolding wordCall tagCallOn partTo
+returns-8 c = simp (c .before .enum-told8 .given .1) refl
+
 pub part-spec : {M : Type 1} → statement M
 part-spec =
     tie.close
@@ -102,10 +112,13 @@ part-spec =
     slice-aggregate-result-4
     enum-told-7
     slice-aggregate-result-5
+    enum-told-8
+    slice-aggregate-result-6
     returns
     returns-2
     returns-3
     returns-4
     returns-5
     returns-6
-    returns-7)
+    returns-7
+    returns-8)

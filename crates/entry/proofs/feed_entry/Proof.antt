@@ -1,12 +1,13 @@
 -- `feed_entry` tests in the paper's order: each return is the first test that fails, behind those that hold.
-use mathlib.Core.Path.{_≡_, sym, _∙_}
-use mathlib.Core.Bool.{true}
+use mathlib.Core.Path.{_≡_, sym, ap, _∙_}
+use mathlib.Core.Bool.{true, not}
 use mathlib.Core.List.{[]}
 use borrow.Author.Tests.{lt-ltb, le-ltb, le-leb, lt-leb, eq-eqb, ne-eqb, not-true, not-false}
 use Rattle.paper.specs.Satellite.{isSatellite}
 use Rattle.paper.specs.Store.{isStore}
 use Rattle.paper.proofs.Order.{stop, pass}
 use Rattle.paper.specs.Answer.{feedNumber}
+use Rattle.paper.proofs.StoreFacts.{store-facts}
 use Rattle.entry.proofs.feed_entry.Statement.{statement}
 use Rattle.entry.proofs.feed_entry.Tie as tie
 
@@ -59,13 +60,32 @@ returns-5 c =
     ∙ pass _ 4 _ [] (a-satellite sat)
     ∙ pass _ 3 _ [] (a-store (sat .before .before))
 
+comes-earlier-requires : tie.Need-comes-earlier-requires
+comes-earlier-requires c κs = store-facts _ (a-store (c .before .before .before .before .before))
+
 returns-6 : tie.Need-returns-6
 unfolding feedNumber
 returns-6 c =
-    let word = c .before in
+    let band = c .before .before in
+    let word = band .before in
     let time = word .before in
     let sat = time .before in
-    pass _ 9 0 [] (le-leb _ _ (c .if5 .left))
+    stop _ 14 0 [] (ap not (sym (c .before .comes-earlier .ensures) ∙ c .if6 .taken))
+    ∙ pass _ 9 _ [] (le-leb _ _ (band .if5 .left))
+    ∙ pass _ 8 _ [] (eq-eqb _ _ (word .if4 .left))
+    ∙ pass _ 5 _ [] (lt-ltb _ _ (time .if3 .left))
+    ∙ pass _ 4 _ [] (a-satellite sat)
+    ∙ pass _ 3 _ [] (a-store (sat .before .before))
+
+returns-7 : tie.Need-returns-7
+unfolding feedNumber
+returns-7 c =
+    let band = c .before .before in
+    let word = band .before in
+    let time = word .before in
+    let sat = time .before in
+    pass _ 15 0 [] (ap not (sym (c .before .comes-earlier .ensures) ∙ c .if6 .left))
+    ∙ pass _ 9 _ [] (le-leb _ _ (band .if5 .left))
     ∙ pass _ 8 _ [] (eq-eqb _ _ (word .if4 .left))
     ∙ pass _ 5 _ [] (lt-ltb _ _ (time .if3 .left))
     ∙ pass _ 4 _ [] (a-satellite sat)
@@ -82,4 +102,6 @@ feed-entry-spec =
     returns-3
     returns-4
     returns-5
-    returns-6)
+    comes-earlier-requires
+    returns-6
+    returns-7)

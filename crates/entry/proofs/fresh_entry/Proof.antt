@@ -11,12 +11,12 @@ use borrow.Author.Needs.{needs}
 use Rattle.entry.proofs.fresh_entry.Statement.{statement}
 use Rattle.entry.proofs.fresh_entry.Tie as tie
 
-sizes-allowed-requires : tie.Need-sizes-allowed-requires
-sizes-allowed-requires c κs = search needs
+fresh-allowed-requires : tie.Need-fresh-allowed-requires
+fresh-allowed-requires c κs = search needs
 
 returns : tie.Need-returns
 unfolding freshNumber
-returns c = stop _ 0 _ [] (sym (c .before .sizes-allowed .ensures) ∙ not-true _ (c .if1 .taken))
+returns c = stop _ 0 _ [] (sym (c .before .fresh-allowed .ensures) ∙ not-true _ (c .if1 .taken))
 
 as-usize-requires : tie.Need-as-usize-requires
 as-usize-requires c κs = search needs
@@ -42,7 +42,7 @@ returns-2 c =
     let test = size .before .before .before in
     let args = test .before .before .before .args in
     stop _ 1 0 [] (lt-leb (roomSize (args .d) (args .n)) (length (args .room .now)) (omega (arith, sized size)))
-    ∙ pass _ 1 _ [] (sym (test .before .sizes-allowed .ensures) ∙ not-false _ (test .if1 .left))
+    ∙ pass _ 1 _ [] (sym (test .before .fresh-allowed .ensures) ∙ not-false _ (test .if1 .left))
 
 returns-3 : tie.Need-returns-3
 unfolding freshNumber
@@ -51,13 +51,13 @@ returns-3 c =
     let test = size .before .before .before in
     let args = test .before .before .before .args in
     pass _ 2 0 [] (le-leb (roomSize (args .d) (args .n)) (length (args .room .now)) (omega (arith, sized size)))
-    ∙ pass _ 1 _ [] (sym (test .before .sizes-allowed .ensures) ∙ not-false _ (test .if1 .left))
+    ∙ pass _ 1 _ [] (sym (test .before .fresh-allowed .ensures) ∙ not-false _ (test .if1 .left))
 
 pub fresh-entry-spec : {M : Type 1} → statement M
 fresh-entry-spec =
     tie.close
     (tie.spec
-    sizes-allowed-requires
+    fresh-allowed-requires
     returns
     as-usize-requires
     as-usize-requires-2

@@ -1,4 +1,4 @@
--- `fresh::put_header` meets its contract: zeros, and then D and N.
+-- `fresh::put_header` meets its contract: zeros, and then D, N and the rule.
 use native.Mathlib.Omega.{arith}
 use borrow.Author.Needs.{needs}
 use lib.ListN.{length-set}
@@ -24,11 +24,14 @@ slice-write-room c = search needs
 slice-write-room-2 : tie.Need-slice-write-room-2
 slice-write-room-2 c = simp length-set (omega (arith, c .before .room .given .1))
 
+slice-write-room-3 : tie.Need-slice-write-room-3
+slice-write-room-3 c = simp length-set (omega (arith, c .before .room .given .1))
+
 same-length : tie.Need-same-length
 same-length c = search needs
 
 returns : tie.Need-returns
-returns c = header-put _ _ (c .before .before .before .before .before .args .room .now) _ (omega arith) (c .before .before .fill .ensures)
+returns c = header-put _ _ _ (c .before .before .before .before .before .args .room .now) _ (omega arith) (c .before .before .fill .ensures)
 
 pub put-header-spec : {M : Type 1} → statement M
 put-header-spec =
@@ -40,5 +43,6 @@ put-header-spec =
     fill-requires
     slice-write-room
     slice-write-room-2
+    slice-write-room-3
     same-length
     returns)

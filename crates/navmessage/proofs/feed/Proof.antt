@@ -20,7 +20,7 @@ unfolding feedRoom
 returns c =
     let entry = c .before .before .before in
     let a = entry .before .before .before .before .args in
-    let number = feedNumber (a .word .now) (a .svn .0) (a .gst .tow .0) (a .band) (a .room .now) in
+    let number = feedNumber (a .word .now) (a .svn .0) (a .gst .wn .0) (a .gst .tow .0) (a .band) (a .room .now) in
     refused-pair _ _ number _ (a .room .now) (c .before .reply .given .1) (entry .feed-entry .ensures)
 
 enum-told : tie.Need-enum-told
@@ -28,7 +28,7 @@ enum-told c = search needs
 
 feed-word-requires : tie.Need-feed-word-requires
 feed-word-requires c κs =
-    fed-passed _ _ _ _ _ (does _ _ _ (c .before .enum-told .given .1) (c .before .before .before .feed-entry .ensures))
+    fed-passed _ _ _ _ _ _ (does _ _ _ (c .before .enum-told .given .1) (c .before .before .before .feed-entry .ensures))
 
 same-length-2 : tie.Need-same-length-2
 same-length-2 c = search needs
@@ -40,7 +40,7 @@ returns-2 c =
     let told = made .before .before in
     let entry = told .before .before in
     let a = entry .before .before .before .before .args in
-    let number = feedNumber (a .word .now) (a .svn .0) (a .gst .tow .0) (a .band) (a .room .now) in
+    let number = feedNumber (a .word .now) (a .svn .0) (a .gst .wn .0) (a .gst .tow .0) (a .band) (a .room .now) in
     done-pair _ number _ _ (a .room .now) (told .enum-told .given .1) (entry .feed-entry .ensures) (made .feed-word .ensures)
 
 pub feed-spec : {M : Type 1} → statement M

@@ -21,14 +21,14 @@ unfolding freshRoom
 returns c =
     let entry = c .before .before .before in
     let a = entry .before .before .before .args in
-    refused-pair _ _ (freshNumber (a .d) (a .n) (a .room .now)) _ (a .room .now) (c .before .reply .given .1) (entry .fresh-entry .ensures)
+    refused-pair _ _ (freshNumber (a .d) (a .n) (a .rule) (a .room .now)) _ (a .room .now) (c .before .reply .given .1) (entry .fresh-entry .ensures)
 
 enum-told : tie.Need-enum-told
 enum-told c = search needs
 
 fresh-room-requires : tie.Need-fresh-room-requires
 fresh-room-requires c κs =
-    fresh-allowed _ _ _ (does _ _ _ (c .before .enum-told .given .1) (c .before .before .before .fresh-entry .ensures)) .1
+    fresh-allowed _ _ _ _ (does _ _ _ (c .before .enum-told .given .1) (c .before .before .before .fresh-entry .ensures)) .1
 
 same-length-2 : tie.Need-same-length-2
 same-length-2 c = search needs
@@ -40,7 +40,7 @@ returns-2 c =
     let told = made .before .before in
     let entry = told .before .before in
     let a = entry .before .before .before .args in
-    done-pair _ (freshNumber (a .d) (a .n) (a .room .now)) _ _ (a .room .now) (told .enum-told .given .1) (entry .fresh-entry .ensures)
+    done-pair _ (freshNumber (a .d) (a .n) (a .rule) (a .room .now)) _ _ (a .room .now) (told .enum-told .given .1) (entry .fresh-entry .ensures)
     (made .fresh-room .ensures)
 
 pub fresh-spec : {M : Type 1} → statement M

@@ -92,7 +92,7 @@ returns c =
     let aged = c .before .before in
     let sized = aged .before .before in
     let copy = sized .before .before .before in
-    advanced-by (rows (copy .before)) (sized .row-size .ensures) (copy .copy-records .ensures) (aged .age-row .ensures)
+    advanced-by (rows (copy .before)) _ (sized .row-size .ensures) (copy .copy-records .ensures) (aged .age-row .ensures)
 
 pub advance-spec : {M : Type 1} → statement M
 advance-spec =

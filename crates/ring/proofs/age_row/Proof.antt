@@ -12,12 +12,12 @@ use Rattle.ring.proofs.age_row.Statement.{statement}
 use Rattle.ring.proofs.age_row.Tie as tie
 
 abbrev Inv-loop : tie.InvT-loop
-Inv-loop row₀ n at₀ left₀ row at left =
+Inv-loop row₀ n by at₀ left₀ row at left =
     (at + left * slotSize ≤ length row)
-    × ((length row ≡ length row₀) × (onParts (agedSlot 1) slotSize n headSize row₀ ≡ onParts (agedSlot 1) slotSize left at row))
+    × ((length row ≡ length row₀) × (onParts (agedSlot by) slotSize n headSize row₀ ≡ onParts (agedSlot by) slotSize left at row))
 
 abbrev μ-loop : tie.MeasureT-loop
-μ-loop row₀ n at₀ left₀ row at left = left
+μ-loop row₀ n by at₀ left₀ row at left = left
 
 loop-holds : tie.Need-loop-holds Inv-loop μ-loop
 loop-holds c = (c .before .pre, (refl, refl))
@@ -49,7 +49,7 @@ loop-again c =
       omega (arith, c .before .row .given .1),
       (
         c .before .row .given .1 ∙ here .inv .1 .0,
-        rw (part-back-at (agedSlot 1) (here .at) slotSize (here .row) (c .before .before .age-slot .last .0) (c .before .before .age-slot .ensures))
+        rw (part-back-at (agedSlot _) (here .at) slotSize (here .row) (c .before .before .age-slot .last .0) (c .before .before .age-slot .ensures))
             (parts-step _ _ _ _ _ _ (c .before .before .before .before .loop-test .taken) (here .inv .1 .1)),
       ),
     )
@@ -58,7 +58,7 @@ same-length : tie.Need-same-length Inv-loop μ-loop
 same-length c = c .before .loop .inv .1 .0
 
 returns : tie.Need-returns Inv-loop μ-loop
-returns c = parts-done _ _ _ _ _ _ (c .loop-test .left) (c .before .loop .inv .1 .1) ∙ sym (aged-once _ _ (c .before .before .before .pre))
+returns c = parts-done _ _ _ _ _ _ (c .loop-test .left) (c .before .loop .inv .1 .1) ∙ sym (aged-once _ _ _ (c .before .before .before .pre))
 
 pub age-row-spec : {M : Type 1} → statement M
 age-row-spec =

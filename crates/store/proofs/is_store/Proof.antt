@@ -9,13 +9,13 @@ use lib.Dec.{leb}
 use lib.ListN.{length}
 use Rattle.paper.specs.Parts.{allParts}
 use Rattle.paper.specs.Room.{headerSize, rowSize, roomSize, depth, slots}
-use Rattle.paper.specs.Store.{headerInRange, headerZeros, rowAllowed, isStore}
+use Rattle.paper.specs.Store.{headerInRange, headerRest, rowAllowed, isStore}
 use Rattle.store.proofs.is_store.Statement.{statement}
 use Rattle.store.proofs.is_store.Tie as tie
 
 -- a room whose header is in order: its length and its rows decide
 behind-header : (room : List ℕ) (d n : ℕ) → d ≡ depth room → n ≡ slots room
-    → leb headerSize (length room) ≡ true → headerInRange room ≡ true → headerZeros room ≡ true
+    → leb headerSize (length room) ≡ true → headerInRange room ≡ true → headerRest room ≡ true
     → isStore room ≡ (leb (roomSize d n) (length room) && allParts (rowAllowed n) (rowSize n) d headerSize room)
 unfolding isStore
 behind-header room d n p q a b c = rw (a, b, c, p, q)
@@ -31,8 +31,8 @@ returns-2 : tie.Need-returns-2
 unfolding isStore
 returns-2 c = simp (le-leb _ _ (c .before .before .if1 .left), sym (c .before .header-in-range .ensures) ∙ not-true _ (c .if2 .taken))
 
-header-zeros-requires : tie.Need-header-zeros-requires
-header-zeros-requires c κs = search needs
+header-rest-requires : tie.Need-header-rest-requires
+header-rest-requires c κs = search needs
 
 returns-3 : tie.Need-returns-3
 unfolding isStore
@@ -40,7 +40,7 @@ returns-3 c =
     simp (
       le-leb _ _ (c .before .before .before .before .if1 .left),
       sym (c .before .before .before .header-in-range .ensures) ∙ not-false _ (c .before .before .if2 .left),
-      sym (c .before .header-zeros .ensures) ∙ not-true _ (c .if3 .taken),
+      sym (c .before .header-rest .ensures) ∙ not-true _ (c .if3 .taken),
     )
 
 depth-requires : tie.Need-depth-requires
@@ -64,7 +64,7 @@ returns-4 c =
     rw (
       behind-header room _ _ (d .depth .ensures .0) (n .slots .ensures .0) (le-leb _ _ (first .if1 .left))
           (sym (second .before .header-in-range .ensures) ∙ not-false _ (second .if2 .left))
-          (sym (third .before .header-zeros .ensures) ∙ not-false _ (third .if3 .left)),
+          (sym (third .before .header-rest .ensures) ∙ not-false _ (third .if3 .left)),
       lt-leb _ _ (rw (start .ensures) at (c .if4 .taken)),
     )
 
@@ -83,7 +83,7 @@ returns-5 c =
     rw (
       behind-header room _ _ (d .depth .ensures .0) (n .slots .ensures .0) (le-leb _ _ (first .if1 .left))
           (sym (second .before .header-in-range .ensures) ∙ not-false _ (second .if2 .left))
-          (sym (third .before .header-zeros .ensures) ∙ not-false _ (third .if3 .left)),
+          (sym (third .before .header-rest .ensures) ∙ not-false _ (third .if3 .left)),
       le-leb _ _ (rw (start .ensures) at (c .before .if4 .left)),
     )
     (c .rows-allowed .ensures)
@@ -95,7 +95,7 @@ is-store-spec =
     returns
     header-in-range-requires
     returns-2
-    header-zeros-requires
+    header-rest-requires
     returns-3
     depth-requires
     slots-requires

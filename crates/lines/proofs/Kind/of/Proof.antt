@@ -31,9 +31,23 @@ returns-6 c = rw (c .match .keys6) refl
 
 returns-7 : tie.Need-returns-7
 unfolding kindOf
-returns-7 c =
+returns-7 c = rw (c .match .keys7) refl
+
+returns-8 : tie.Need-returns-8
+unfolding kindOf
+returns-8 c =
     let not = c .match .rest in
-    rw (ne-eqb _ 1 (not .0 .0 .0 .0 .0 .1), ne-eqb _ 2 (not .0 .0 .0 .0 .1), ne-eqb _ 3 (not .0 .0 .0 .1), ne-eqb _ 4 (not .0 .0 .1), ne-eqb _ 5 (not .0 .1), ne-eqb _ 6 (not .1)) refl
+    let early = not .0 .0 .0 in
+    rw (
+      ne-eqb _ 1 (early .0 .0 .0 .1),
+      ne-eqb _ 2 (early .0 .0 .1),
+      ne-eqb _ 3 (early .0 .1),
+      ne-eqb _ 4 (early .1),
+      ne-eqb _ 5 (not .0 .0 .1),
+      ne-eqb _ 6 (not .0 .1),
+      ne-eqb _ 9 (not .1),
+    )
+    refl
 
 pub of-spec : {M : Type 1} → statement M
-of-spec = tie.close (tie.spec returns returns-2 returns-3 returns-4 returns-5 returns-6 returns-7)
+of-spec = tie.close (tie.spec returns returns-2 returns-3 returns-4 returns-5 returns-6 returns-7 returns-8)
