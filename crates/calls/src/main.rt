@@ -4,7 +4,7 @@
 //
 // A line says the call and its numbers, then after the colon what came back: the number of STORE 14.1 and its values, for a part
 // that is handed out its length and its Adler-32, and last the Adler-32 of the whole room, which stays where the number is not 0. The
-// lines that the gate compares with are those of tools/model, which was written from the scope paper (STORE 1.1) and not from this program.
+// lines that the gate compares with are those of tools/model, which was written from the rules (STORE 1.1, 7.7) and not from this program.
 use gst::Gst;
 use gst::Tow;
 use gst::Wn;
@@ -13,6 +13,7 @@ use layout::DEPTH_AT;
 use layout::HEADER;
 use layout::MARK_AT;
 use layout::ROW_HEAD;
+use layout::RULE_AT;
 use layout::SLOT;
 use layout::SLOTS_AT;
 use layout::SPARE_AT;
@@ -138,12 +139,13 @@ fn asked(asked: Asked) {
     }
 }
 
-fn fresh(room: &mut [u8; ROOM], d: u8, n: u8) {
+fn fresh(room: &mut [u8; ROOM], d: u8, n: u8, rule: u8) {
     text(b"fresh");
     byte(d);
     byte(n);
+    byte(rule);
     text(b":");
-    reply(navmessage::fresh(room, d, n));
+    reply(navmessage::fresh(room, d, n, rule));
     end(room);
 }
 
@@ -293,13 +295,14 @@ fn spoilt(room: &mut [u8; ROOM], place: usize, value: u8) {
 }
 
 // A fresh store on a room that is a byte short of D 2 and N 2.
-fn fresh_short(d: u8, n: u8) {
+fn fresh_short(d: u8, n: u8, rule: u8) {
     let mut room = [7; STORE - 1];
     text(b"fresh on a byte less");
     byte(d);
     byte(n);
+    byte(rule);
     text(b":");
-    reply(navmessage::fresh(&mut room, d, n));
+    reply(navmessage::fresh(&mut room, d, n, rule));
     end(&room);
 }
 
@@ -329,17 +332,33 @@ fn every_short() {
 // 1, 2 and 0.
 fn fresh_calls(room: &mut [u8; ROOM]) {
     reset(room);
-    fresh(room, 0, 2);
-    fresh(room, 17, 2);
-    fresh(room, 2, 0);
-    fresh(room, 2, 37);
-    fresh(room, 2, 3);
-    fresh_short(2, 2);
-    fresh_short(2, 37);
-    fresh_short(1, 1);
+    fresh(room, 0, 2, 0);
+    fresh(room, 17, 2, 0);
+    fresh(room, 2, 0, 0);
+    fresh(room, 2, 37, 0);
+    fresh(room, 2, 3, 0);
+    fresh_short(2, 2, 0);
+    fresh_short(2, 37, 0);
+    fresh_short(1, 1, 0);
     every_short();
-    fresh(room, 1, 1);
-    fresh(room, 2, 2);
+    fresh(room, 1, 1, 0);
+}
+
+// The same of the rule: 1 before 2, and a refused one leaves the store that ages by time.
+fn fresh_rules(room: &mut [u8; ROOM]) {
+    fresh(room, 2, 2, 2);
+    fresh(room, 2, 2, 255);
+    fresh(room, 2, 3, 2);
+    fresh(room, 2, 3, 1);
+    fresh_short(2, 2, 2);
+    fresh_short(2, 2, 1);
+    fresh_short(1, 1, 1);
+    fresh(room, 2, 2, 1);
+    fresh(room, 2, 2, 2);
+    fresh(room, 0, 2, 0);
+    word(room, 4, 255, 5, WEEK, T30);
+    word(room, 4, 255, 5, WEEK, T);
+    fresh(room, 2, 2, 0);
 }
 
 // 3, clause by clause: row 0 is marked and holds E05 in slot 1, row 1 is blank.
@@ -351,18 +370,19 @@ fn no_store(room: &mut [u8; ROOM]) {
     spoilt(room, SLOTS_AT, 0);
     spoilt(room, SLOTS_AT, 37);
     spoilt(room, CURRENT_AT, 2);
+    spoilt(room, RULE_AT, 2);
+    spoilt(room, RULE_AT, 255);
     spoilt(room, ZEROS_AT, 1);
     spoilt(room, ZEROS_AT + 1, 1);
     spoilt(room, ZEROS_AT + 2, 1);
     spoilt(room, ZEROS_AT + 3, 1);
-    spoilt(room, ZEROS_AT + 4, 1);
     spoilt(room, HEADER + MARK_AT, 2);
     spoilt(room, HEADER + TIME_AT + 3, 157);
     spoilt(room, HEADER + TIME_AT + 1, 17);
     spoilt(room, HEADER + SPARE_AT, 1);
 }
 
-// The rest of 3: the records of row 0, then row 1.
+// The rest of 3: the records of row 0, then row 1. The other rule is no reason.
 fn no_records(room: &mut [u8; ROOM]) {
     spoilt(room, CED_1, 37);
     spoilt(room, TIMING_1, 37);
@@ -380,6 +400,7 @@ fn no_records(room: &mut [u8; ROOM]) {
     spoilt(room, STORE - 1, 2);
     text(b"nothing changed:");
     every(room);
+    spoilt(room, RULE_AT, 1);
 }
 
 // A word of so many bytes, up to 17, each of them ones.
@@ -392,7 +413,7 @@ fn feed_ones(room: &mut [u8; ROOM], bytes: usize, svn: u8, week: u16, tow: u32, 
 
 // 4, 5, 8, 9, each before those that come later, and 0.
 fn feed_calls(room: &mut [u8; ROOM]) {
-    fresh(room, 2, 2);
+    fresh(room, 2, 2, 0);
     feed_ones(room, 15, 0, WEEK, 604800, 2);
     feed_ones(room, 15, 37, WEEK, 604800, 2);
     feed_ones(room, 15, 1, WEEK, 604800, 2);
@@ -402,6 +423,25 @@ fn feed_calls(room: &mut [u8; ROOM]) {
     feed_ones(room, 16, 1, WEEK, T, 2);
     feed_ones(room, 16, 1, WEEK, T, 255);
     feed_ones(room, 16, 1, WEEK, T, 1);
+}
+
+// 15 behind all of them: the current row's subframe is T + 30 s. The same subframe and a later one are taken, at whatever second.
+fn earlier_calls(room: &mut [u8; ROOM]) {
+    fresh(room, 2, 2, 1);
+    feed_ones(room, 16, 1, WEEK, T30, 0);
+    feed_ones(room, 15, 0, WEEK - 1, 604800, 2);
+    feed_ones(room, 15, 1, WEEK - 1, 604800, 2);
+    feed_ones(room, 15, 1, WEEK - 1, 604799, 2);
+    feed_ones(room, 16, 1, WEEK - 1, 604799, 2);
+    feed_ones(room, 16, 1, WEEK - 1, 604799, 1);
+    feed_ones(room, 16, 2, WEEK, T30 - 1, 0);
+    feed_ones(room, 16, 2, WEEK, T, 0);
+    feed_ones(room, 16, 1, 0, 0, 0);
+    feed_ones(room, 16, 2, WEEK, T60 - 1, 0);
+    feed_ones(room, 16, 1, WEEK, T60, 0);
+    feed_ones(room, 16, 1, WEEK, T30, 0);
+    feed_ones(room, 16, 1, WEEK + 1, 0, 0);
+    feed_ones(room, 16, 1, WEEK, 604799, 0);
 }
 
 // The words of an orbit and of the timing parameters, each of ones.
@@ -432,7 +472,7 @@ fn tag_of_none(
 
 // 4, 5, 6, 8, 9, 7, 16, 10, each before those that come later.
 fn tag_calls(room: &mut [u8; ROOM]) {
-    fresh(room, 2, 2);
+    fresh(room, 2, 2, 0);
     all_words(room, 1, WEEK, 175767);
     tag_of_none(room, 0, 1, 16, 21, 4, 0, 604800);
     tag_of_none(room, 37, 1, 16, 21, 4, 0, 604800);
@@ -514,7 +554,7 @@ fn ask_calls(room: &mut [u8; ROOM]) {
     ask(room, 1);
     reset(room);
     ask(room, 1);
-    fresh(room, 2, 2);
+    fresh(room, 2, 2, 0);
     all_words(room, 36, 0, 0);
     tag(room, 36, 0, 1, 40, 2, 0, 30, &given);
     tag(room, 36, 4, 1, 40, 2, 0, 30, &given[0..18]);
@@ -525,11 +565,33 @@ fn ask_calls(room: &mut [u8; ROOM]) {
     ask(room, 36);
 }
 
+// 24, behind 4 and 12: of the first subframe of all 254 are gone by, and then one more. A word that comes again makes it 0.
+fn unknown_ages(room: &mut [u8; ROOM]) {
+    let given = [255; 69];
+    fresh(room, 2, 2, 1);
+    all_words(room, 36, 0, 0);
+    tag(room, 36, 0, 1, 40, 2, 0, 30, &given);
+    tag(room, 36, 4, 1, 40, 2, 0, 30, &given[0..18]);
+    word(room, 3, 255, 36, 0, 7620);
+    ask(room, 36);
+    word(room, 3, 255, 36, 0, 7650);
+    ask(room, 36);
+    ask(room, 0);
+    ask(room, 35);
+    word(room, 43, 255, 36, 0, 7650);
+    word(room, 23, 255, 36, 0, 7650);
+    ask(room, 36);
+    word(room, 3, 255, 36, WEEK, T);
+    reset(room);
+    ask(room, 36);
+}
+
 // ---- every value of a number
 // The number of a call that goes through its values; the others are allowed.
 enum Swept {
     Rows,
     Slots,
+    Rule,
     Band,
     FedSatellite,
     Kind,
@@ -542,6 +604,8 @@ enum Swept {
     ShownSatellite,
     AskedSatellite,
     Count,
+    Age,
+    Gone,
 }
 
 // A tag of E01 over the ones that its record holds.
@@ -571,12 +635,34 @@ fn one_count(room: &mut [u8; ROOM], v: u8) {
     asked(navmessage::get_ced_and_status(room, Svn(1)));
 }
 
+// The ages of the CED record of slot 1, and what asking for it says.
+fn one_age(room: &mut [u8; ROOM], v: u8) {
+    room[CED_1 + AGES_AT] = v;
+    room[CED_1 + AGES_AT + 1] = v;
+    room[CED_1 + AGES_AT + 2] = v;
+    room[CED_1 + AGES_AT + 3] = v;
+    room[CED_1 + AGES_AT + 4] = v;
+    asked(navmessage::get_ced_and_status(room, Svn(1)));
+}
+
+// A word 6 of E01 in a store that ages by time, a word of type 0 twice v subframes later, and the age that word 6 then has.
+fn one_gone(room: &mut [u8; ROOM], v: u8) {
+    let mut word = [255; 16];
+    word[0] = 27;
+    reply(navmessage::fresh(room, 1, 1, 1));
+    reply(navmessage::feed(room, &word, Svn(1), at(WEEK, T), 0));
+    word[0] = 3;
+    reply(navmessage::feed(room, &word, Svn(1), at(WEEK, T + 60 * (v as u32)), 0));
+    byte(room[TIMING_0 + AGES_AT]);
+}
+
 fn one(room: &mut [u8; ROOM], swept: Swept, v: u8) {
     let mut word = [255; 16];
     word[0] = 7;
     match swept {
-        Swept::Rows => reply(navmessage::fresh(room, v, 1)),
-        Swept::Slots => reply(navmessage::fresh(room, 1, v)),
+        Swept::Rows => reply(navmessage::fresh(room, v, 1, 0)),
+        Swept::Slots => reply(navmessage::fresh(room, 1, v, 0)),
+        Swept::Rule => reply(navmessage::fresh(room, 1, 1, v)),
         Swept::Band => reply(navmessage::feed(room, &word, Svn(1), at(WEEK, T), v)),
         Swept::FedSatellite => reply(navmessage::feed(room, &word, Svn(v), at(WEEK, T), 0)),
         Swept::Kind => one_tag(room, 1, v, 1, 40, 2),
@@ -589,6 +675,8 @@ fn one(room: &mut [u8; ROOM], swept: Swept, v: u8) {
         Swept::ShownSatellite => one_shown(room, v, 0, 1),
         Swept::AskedSatellite => asked(navmessage::get_ced_and_status(room, Svn(v))),
         Swept::Count => one_count(room, v),
+        Swept::Age => one_age(room, v),
+        Swept::Gone => one_gone(room, v),
     }
 }
 
@@ -605,13 +693,14 @@ fn sweep(room: &mut [u8; ROOM], name: &[u8], swept: Swept) {
 
 // D 2 and N 2 with all words of E01 in slot 1 of row 0.
 fn begin(room: &mut [u8; ROOM]) {
-    fresh(room, 2, 2);
+    fresh(room, 2, 2, 0);
     all_words(room, 1, WEEK, T);
 }
 
 fn every_value(room: &mut [u8; ROOM]) {
     sweep(room, b"every D", Swept::Rows);
     sweep(room, b"every N", Swept::Slots);
+    sweep(room, b"every rule", Swept::Rule);
     begin(room);
     sweep(room, b"a word of every band", Swept::Band);
     sweep(room, b"a tag of every kind", Swept::Kind);
@@ -632,6 +721,15 @@ fn every_value_asked(room: &mut [u8; ROOM]) {
     sweep(room, b"asking for every satellite", Swept::AskedSatellite);
     sweep(room, b"asking for every count up to 255", Swept::Count);
     sweep(room, b"a word of every satellite", Swept::FedSatellite);
+}
+
+// Both under the rule by time.
+fn every_age(room: &mut [u8; ROOM]) {
+    fresh(room, 2, 2, 1);
+    all_words(room, 1, WEEK, T);
+    room[CED_1 + COUNT_AT + 1] = 40;
+    sweep(room, b"asking for every age", Swept::Age);
+    sweep(room, b"an age after every even number of subframes up to 510", Swept::Gone);
 }
 
 // ---- rooms that no call makes
@@ -682,7 +780,7 @@ fn row_times(room: &mut [u8; ROOM]) {
 
 // A record without a satellite keeps its ages when one takes it, and so fits a COP of one more than the greatest.
 fn ages_of_none(room: &mut [u8; ROOM]) {
-    fresh(room, 1, 1);
+    fresh(room, 1, 1, 0);
     text(b"ages where no satellite is\n");
     room[CED_0 + AGES_AT] = 1;
     room[CED_0 + AGES_AT + 1] = 5;
@@ -698,10 +796,41 @@ fn ages_of_none(room: &mut [u8; ROOM]) {
     candidate(room, 5, 4, 8, WEEK, T30);
 }
 
+// A row that is later than the current one: the current row alone says which words are earlier, and a blank one does not.
+fn other_row(room: &mut [u8; ROOM]) {
+    fresh(room, 2, 2, 1);
+    word(room, 3, 0, 5, WEEK, T60);
+    text(b"the other row is the current one\n");
+    room[CURRENT_AT] = 1;
+    word(room, 3, 0, 5, WEEK, T);
+    word(room, 3, 0, 6, WEEK, 0);
+    word(room, 3, 0, 6, WEEK, T30);
+    word(room, 3, 0, 6, WEEK, T);
+}
+
+// 24 before 7 and behind 12, by the least age: in the first subframe of all, and at the other rule 7.
+fn ages_of_one(room: &mut [u8; ROOM]) {
+    fresh(room, 1, 1, 1);
+    word(room, 3, 0, 1, 0, 0);
+    text(b"ages of 255 with a count of 39, of 40, the other rule, and one age of 254\n");
+    room[CED_0 + COUNT_AT + 1] = 39;
+    room[TIMING_0 + COUNT_AT + 1] = 39;
+    ask(room, 1);
+    room[CED_0 + COUNT_AT + 1] = 40;
+    room[TIMING_0 + COUNT_AT + 1] = 40;
+    ask(room, 1);
+    room[RULE_AT] = 0;
+    ask(room, 1);
+    room[RULE_AT] = 1;
+    room[CED_0 + AGES_AT + 4] = 254;
+    room[TIMING_0 + AGES_AT + 1] = 254;
+    ask(room, 1);
+}
+
 // ---- the examples of STORE 18 that a program runs
 // A fresh store with both timing words of E01, of zeros.
 fn begin_clock(room: &mut [u8; ROOM], d: u8) {
-    fresh(room, d, 1);
+    fresh(room, d, 1, 0);
     word(room, 24, 0, 1, 1, 0);
     word(room, 40, 0, 1, 1, 0);
 }
@@ -744,19 +873,25 @@ fn same_word(room: &mut [u8; ROOM]) {
 fn main() {
     let mut room = [7; ROOM];
     fresh_calls(&mut room);
+    fresh_rules(&mut room);
     no_store(&mut room);
     no_records(&mut room);
     feed_calls(&mut room);
+    earlier_calls(&mut room);
     tag_calls(&mut room);
     tags_other(&mut room);
     tags_taken(&mut room);
     candidate_calls(&mut room);
     ask_calls(&mut room);
+    unknown_ages(&mut room);
     every_value(&mut room);
     every_value_asked(&mut room);
+    every_age(&mut room);
     satellite_twice(&mut room);
     row_times(&mut room);
     ages_of_none(&mut room);
+    other_row(&mut room);
+    ages_of_one(&mut room);
     looked_up(&mut room);
     same_word(&mut room);
 }
