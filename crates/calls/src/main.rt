@@ -729,7 +729,11 @@ fn every_age(room: &mut [u8; ROOM]) {
     all_words(room, 1, WEEK, T);
     room[CED_1 + COUNT_AT + 1] = 40;
     sweep(room, b"asking for every age", Swept::Age);
-    sweep(room, b"an age after every even number of subframes up to 510", Swept::Gone);
+    sweep(
+        room,
+        b"an age after every even number of subframes up to 510",
+        Swept::Gone,
+    );
 }
 
 // ---- rooms that no call makes
