@@ -66,9 +66,9 @@ static bool bare_timing(dawnstook_timing t) {
     return same_timing(t, none);
 }
 
-/* A store through all its calls, with the data given at a place that the caller chooses. */
+/* A store that ages by time through all its calls, with the data given at a place that the caller chooses. */
 static void use(uint8_t *room, size_t len, uint8_t *word, uint8_t *given) {
-    need(dawnstook_fresh(room, len, D, N) == DAWNSTOOK_DONE, "a fresh store");
+    need(dawnstook_fresh(room, len, D, N, DAWNSTOOK_AGE_BY_TIME) == DAWNSTOOK_DONE, "a fresh store");
     words(room, len, word);
     static const uint8_t kinds[] = { DAWNSTOOK_CED, DAWNSTOOK_TIMING, DAWNSTOOK_SLOW_CED };
     static const uint8_t lengths[] = DAWNSTOOK_TAG_BITS;
@@ -158,8 +158,8 @@ static size_t put_tag(uint8_t *at, uint8_t kind, uint8_t bits, uint32_t mack) {
 static void hear(uint8_t *reader, uint8_t *room, size_t len, uint8_t *place, size_t bytes, uint8_t *out) {
     static const uint8_t kinds[] = { DAWNSTOOK_CED, DAWNSTOOK_TIMING, DAWNSTOOK_SLOW_CED }, asking[] = { 4, SAT, 5, SAT };
     static const uint8_t lengths[] = DAWNSTOOK_TAG_BITS;
-    uint8_t input[3 + 10 * 25 + sizeof kinds * sizeof lengths * 13 + sizeof asking] = { 6, D, N };
-    size_t whole = 3, lines = 0;
+    uint8_t input[4 + 10 * 25 + sizeof kinds * sizeof lengths * 13 + sizeof asking] = { 9, D, N, DAWNSTOOK_AGE_BY_TIME };
+    size_t whole = 4, lines = 0;
     for (uint8_t type = 1; type <= 10; type++) whole += put_word(input + whole, type, START);
     for (size_t k = 0; k < sizeof kinds; k++)
         for (size_t i = 0; i < sizeof lengths; i++) whole += put_tag(input + whole, kinds[k], lengths[i], MACK);
@@ -246,12 +246,12 @@ static void ranges(void) {
             uint8_t *part = fenced(len, at_end);
             memcpy(part, first, len);
             need(dawnstook_reset_authbits(part, len) == DAWNSTOOK_NOT_A_STORE, "a part of a store is none");
-            need(dawnstook_fresh(part, len, D, N) == DAWNSTOOK_TOO_SHORT, "a part is too short");
+            need(dawnstook_fresh(part, len, D, N, DAWNSTOOK_AGE_BY_TIME) == DAWNSTOOK_TOO_SHORT, "a part is too short");
         }
     }
     puts("no byte outside of a range is touched: room, word, data, reader, part, output, message and buffer between fences");
     memset(room, 7, sizeof room);
-    need(dawnstook_fresh(room, sizeof room, D, N) == DAWNSTOOK_DONE, "a fresh store in a longer room");
+    need(dawnstook_fresh(room, sizeof room, D, N, DAWNSTOOK_AGE_BY_TIME) == DAWNSTOOK_DONE, "a fresh store in a longer room");
     for (size_t i = SIZE; i < sizeof room; i++) need(room[i] == 7, "bytes past the size stay");
     puts("bytes past the size, and behind a message, stay");
 }
@@ -269,12 +269,13 @@ static void nothing(void) {
     dawnstook_timing numbers = dawnstook_get_timing_numbers(NULL, 0, SAT);
     need(bare_shown(seen) && bare_told(ced) && bare_told(timing) && taken.records == 0 && bare_orbit(orbit) && bare_timing(numbers),
          "a refusal carries no data");
-    printf("NULL as a room of 0 bytes: fresh %d and %d, feed %d and %d, candidate %d, tag %d, asking %d and %d, numbers %d and %d, "
-           "reset %d\n", dawnstook_fresh(NULL, 0, D, N), dawnstook_fresh(NULL, 0, 0, 0),
+    printf("NULL as a room of 0 bytes: fresh %d, %d and %d, feed %d and %d, candidate %d, tag %d, asking %d and %d, numbers %d and %d, "
+           "reset %d\n", dawnstook_fresh(NULL, 0, D, N, DAWNSTOOK_AGE_BY_MOVES), dawnstook_fresh(NULL, 0, 0, 0, DAWNSTOOK_AGE_BY_TIME),
+           dawnstook_fresh(NULL, 0, D, N, DAWNSTOOK_AGE_BY_TIME + 1),
            dawnstook_feed(NULL, 0, word, sizeof word, SAT, WEEK, START, DAWNSTOOK_E1B),
            dawnstook_feed(NULL, 0, NULL, 0, SAT, WEEK, START, DAWNSTOOK_E1B), seen.number, taken.number, ced.number, timing.number,
            orbit.number, numbers.number, dawnstook_reset_authbits(NULL, 0));
-    need(dawnstook_fresh(room, sizeof room, D, N) == DAWNSTOOK_DONE, "a fresh store");
+    need(dawnstook_fresh(room, sizeof room, D, N, DAWNSTOOK_AGE_BY_MOVES) == DAWNSTOOK_DONE, "a fresh store");
     words(room, sizeof room, word);
     printf("NULL as a word of 0 bytes: %d\n", dawnstook_feed(room, sizeof room, NULL, 0, SAT, WEEK, START, DAWNSTOOK_E1B));
     for (int timing_tag = 0; timing_tag < 2; timing_tag++) {
@@ -356,18 +357,41 @@ static uint8_t unreadable(uint8_t *room, const uint8_t *word) {
     return orbit.number;
 }
 
+/* The number of all four askings, a tag being taken over the words of both families, once so many subframes have gone by. */
+static uint8_t aged(uint8_t *room, uint32_t subframes) {
+    uint8_t word[DAWNSTOOK_WORD_BYTES], before[SIZE];
+    const uint32_t now = START + subframes * DAWNSTOOK_SUBFRAME_SECONDS;
+    tag(room, SIZE, DAWNSTOOK_CED, MACK);
+    tag(room, SIZE, DAWNSTOOK_TIMING, MACK);
+    make_word(word, 0, 0);
+    need(dawnstook_feed(room, SIZE, word, sizeof word, SAT + 1, WEEK, now, DAWNSTOOK_E1B) == DAWNSTOOK_DONE, "a word behind a gap");
+    memcpy(before, room, SIZE);
+    dawnstook_told ced = dawnstook_get_ced_and_status(room, SIZE, SAT), timing = dawnstook_get_timing_parameters(room, SIZE, SAT);
+    dawnstook_orbit orbit = dawnstook_get_orbit(room, SIZE, SAT);
+    dawnstook_timing numbers = dawnstook_get_timing_numbers(room, SIZE, SAT);
+    need(timing.number == ced.number && orbit.number == ced.number && numbers.number == ced.number, "four askings are answered alike");
+    if (ced.number == DAWNSTOOK_DONE) need(ced.week == WEEK && ced.time == START && timing.time == START, "the time that the data is of");
+    else need(bare_told(ced) && bare_told(timing) && bare_orbit(orbit) && bare_timing(numbers), "a refusal carries no data");
+    need(memcmp(room, before, SIZE) == 0, "asking changes no byte");
+    return ced.number;
+}
+
 /* Every number that a call may answer, once. */
 static void numbers(void) {
     static uint8_t room[SIZE], before[SIZE], word[DAWNSTOOK_WORD_BYTES], given[DAWNSTOOK_CED_BYTES];
     static uint8_t ended[DAWNSTOOK_READER_BYTES], cut[DAWNSTOOK_READER_BYTES], out[DAWNSTOOK_LONGEST_LINE], other[SIZE];
     static uint8_t message[DAWNSTOOK_CED_MESSAGE_BYTES], kept[DAWNSTOOK_CED_BYTES];
     const uint8_t op = DAWNSTOOK_OPERATIONAL, unknown = 0, fresh = 6;
-    need(dawnstook_fresh(room, sizeof room, D, N) == DAWNSTOOK_DONE, "a fresh store");
+    need(dawnstook_fresh(room, sizeof room, D, N, DAWNSTOOK_AGE_BY_TIME) == DAWNSTOOK_DONE, "a fresh store");
     words(room, sizeof room, word);
     memcpy(given, room + dawnstook_candidate(room, SIZE, SAT, DAWNSTOOK_CED, 1, WEEK, MACK).offset, sizeof given);
     memcpy(before, room, SIZE);
-    printf("numbers: %d", dawnstook_fresh(room, SIZE, DAWNSTOOK_MOST_ROWS + 1, N));
-    printf(" %d", dawnstook_fresh(room, SIZE - 1, D, N));
+    for (unsigned rule = DAWNSTOOK_AGE_BY_TIME + 1; rule < 256; rule++) {
+        need(dawnstook_fresh(room, SIZE, D, N, (uint8_t)rule) == DAWNSTOOK_SIZES, "an unknown rule");
+        need(dawnstook_fresh(room, SIZE - 1, D, N, (uint8_t)rule) == DAWNSTOOK_SIZES, "1 comes before 2");
+    }
+    printf("numbers: %d", dawnstook_fresh(room, SIZE, DAWNSTOOK_MOST_ROWS + 1, N, DAWNSTOOK_AGE_BY_TIME));
+    printf(" %d", dawnstook_fresh(room, SIZE - 1, D, N, DAWNSTOOK_AGE_BY_MOVES));
     printf(" %d", dawnstook_reset_authbits(room, SIZE - 1));
     printf(" %d", dawnstook_feed(room, SIZE, word, sizeof word, DAWNSTOOK_MOST_SATELLITES + 1, WEEK, START, DAWNSTOOK_E1B));
     printf(" %d", dawnstook_feed(room, SIZE, word, sizeof word, SAT, WEEK, DAWNSTOOK_WEEK_SECONDS, DAWNSTOOK_E1B));
@@ -383,6 +407,11 @@ static void numbers(void) {
     printf(" %d", dawnstook_part(ended, room, SIZE, &unknown, 1, out, sizeof out).number);
     need(dawnstook_part(cut, room, SIZE, &fresh, 1, out, sizeof out).number == DAWNSTOOK_DONE, "the beginning of a record");
     printf(" %d", dawnstook_end(cut, room, SIZE, out, sizeof out).number);
+    need(dawnstook_feed(room, SIZE, word, 0, SAT, WEEK, START - 1, DAWNSTOOK_E5B + 1) == DAWNSTOOK_NOT_ALLOWED, "8 comes before 15");
+    need(dawnstook_feed(room, SIZE, word, sizeof word, SAT, WEEK, START - 1, DAWNSTOOK_E5B + 1) == DAWNSTOOK_UNKNOWN_CODE,
+         "9 comes before 15");
+    need(dawnstook_feed(room, SIZE, word, sizeof word, SAT, WEEK - 1, START + 1, DAWNSTOOK_E1B) == DAWNSTOOK_EARLIER, "an earlier week");
+    printf(" %d", dawnstook_feed(room, SIZE, word, sizeof word, SAT + 1, WEEK, START - 1, DAWNSTOOK_E1B));
     printf(" %d", dawnstook_tag(room, SIZE, SAT, DAWNSTOOK_CED, 0, 40, op, WEEK, MACK, given, sizeof given, true).number);
     printf(" %d", dawnstook_tag(room, SIZE, SAT, DAWNSTOOK_CED, 1, 40, op, WEEK, MACK, given, sizeof given, false).number);
     printf(" %d", dawnstook_tag(room, SIZE, SAT, DAWNSTOOK_CED, 1, 40, DAWNSTOOK_DONT_USE, WEEK, MACK, given, sizeof given, true).number);
@@ -394,6 +423,10 @@ static void numbers(void) {
     make_word(word, 4, 4);
     word[2] = (SAT + 1) << 2;
     printf(" %d", unreadable(other, word));
+    memcpy(other, room, SIZE);
+    need(aged(other, 254) == DAWNSTOOK_DONE, "an age of 254 is known");
+    memcpy(other, room, SIZE);
+    printf(" %d", aged(other, 255));
     need(build(message, sizeof message, given, sizeof given, DAWNSTOOK_FORM_CED).number == DAWNSTOOK_DONE, "a message");
     message[sizeof message - 1] |= 1;
     given[0] ^= 1;
@@ -418,7 +451,7 @@ static void rounding(void) {
     static uint8_t room[SIZE], word[DAWNSTOOK_WORD_BYTES];
     const uint32_t usual = control();
     for (size_t i = 0; i < sizeof bytes; i++) {
-        need(dawnstook_fresh(room, SIZE, D, N) == DAWNSTOOK_DONE, "a fresh store");
+        need(dawnstook_fresh(room, SIZE, D, N, DAWNSTOOK_AGE_BY_MOVES) == DAWNSTOOK_DONE, "a fresh store");
         for (uint8_t type = 1; type <= 10; type++) {
             make_word(word, type, bytes[i]);
             need(dawnstook_feed(room, SIZE, word, sizeof word, SAT, WEEK, START, DAWNSTOOK_E1B) == DAWNSTOOK_DONE, "a word is taken");
@@ -454,7 +487,7 @@ static uint8_t stack_word[DAWNSTOOK_WORD_BYTES], stack_given[DAWNSTOOK_CED_BYTES
 static uint8_t stack_reader[DAWNSTOOK_READER_BYTES], stack_record[9 + DAWNSTOOK_WORD_BYTES], stack_out[DAWNSTOOK_LONGEST_LINE];
 static uint8_t stack_message[DAWNSTOOK_CED_MESSAGE_BYTES];
 static volatile uint32_t stack_time = START;
-static volatile uint8_t stack_number, stack_form;
+static volatile uint8_t stack_number, stack_form, stack_rule;
 static volatile size_t stack_data, stack_bytes;
 static size_t stack_most;
 static size_t needed(void (*call)(void), const uint64_t *arguments) {
@@ -472,7 +505,9 @@ static size_t needed(void (*call)(void), const uint64_t *arguments) {
     return whole - i;
 }
 static void on_nothing(void) {}
-static void on_fresh(void) { stack_number = dawnstook_fresh(stack_room, sizeof stack_room, DAWNSTOOK_MOST_ROWS, DAWNSTOOK_MOST_SLOTS); }
+static void on_fresh(void) {
+    stack_number = dawnstook_fresh(stack_room, sizeof stack_room, DAWNSTOOK_MOST_ROWS, DAWNSTOOK_MOST_SLOTS, stack_rule);
+}
 static void on_feed(void) {
     stack_number = dawnstook_feed(stack_room, sizeof stack_room, stack_word, sizeof stack_word, SAT, WEEK, stack_time, DAWNSTOOK_E1B);
 }
@@ -534,6 +569,19 @@ static void timing_within(uint8_t number, const char *what) {
     numbers_within((void (*)(void))dawnstook_get_timing_numbers, &timing, sizeof timing);
     need(timing.number == number, what);
 }
+/* Words of each type. */
+static void words_within(void) {
+    for (uint8_t type = 0; type < 64; type++) {
+        make_word(stack_word, type, 0x5a);
+        within(on_feed, DAWNSTOOK_DONE, "feed");
+    }
+}
+/* A word that stores nothing, after so long that no age is known. */
+static void behind_a_gap(void) {
+    stack_time += 255 * DAWNSTOOK_SUBFRAME_SECONDS;
+    make_word(stack_word, 0, 0x5a);
+    within(on_feed, DAWNSTOOK_DONE, "feed behind a gap");
+}
 /* The two calls that read numbers, with each answer that hangs on the data. */
 static void number_stacks(void) {
     orbit_within(DAWNSTOOK_NOT_ENOUGH, "an orbit without a tag");
@@ -551,24 +599,30 @@ static void number_stacks(void) {
     on_feed();
     tag(stack_room, sizeof stack_room, DAWNSTOOK_CED, stack_time + 30);
     orbit_within(DAWNSTOOK_ISSUES_DIFFER, "an orbit of two issues");
+    behind_a_gap();
+    orbit_within(DAWNSTOOK_AGE_UNKNOWN, "an orbit of unknown age");
+    timing_within(DAWNSTOOK_AGE_UNKNOWN, "timing of unknown age as numbers");
     fprintf(stderr, "caller: the deepest call that reads numbers needed %zu bytes of stack\n", stack_most);
     need(stack_most <= DAWNSTOOK_NUMBERS_STACK_BYTES, "the stack is enough for numbers");
     printf("no call that reads numbers needed more than %d bytes of stack\n", DAWNSTOOK_NUMBERS_STACK_BYTES);
 }
 static void stacks(void) {
-    within(on_fresh, DAWNSTOOK_DONE, "fresh");
-    for (int row = 0; row < 2 * DAWNSTOOK_MOST_ROWS; row++, stack_time += DAWNSTOOK_SUBFRAME_SECONDS)
-        for (uint8_t type = 0; type < 64; type++) {
-            make_word(stack_word, type, 0x5a);
-            within(on_feed, DAWNSTOOK_DONE, "feed");
-        }
-    stack_time -= DAWNSTOOK_SUBFRAME_SECONDS;
+    for (stack_rule = DAWNSTOOK_AGE_BY_MOVES; stack_rule <= DAWNSTOOK_AGE_BY_TIME; stack_rule++) {
+        within(on_fresh, DAWNSTOOK_DONE, "fresh");
+        for (int row = 0; row < 2 * DAWNSTOOK_MOST_ROWS; row++, stack_time += DAWNSTOOK_SUBFRAME_SECONDS) words_within();
+    }
+    stack_time -= 2 * DAWNSTOOK_SUBFRAME_SECONDS;
+    within(on_feed, DAWNSTOOK_EARLIER, "an earlier word");
+    stack_time += DAWNSTOOK_SUBFRAME_SECONDS;
     within(on_candidate, DAWNSTOOK_DONE, "candidate");
     dawnstook_shown seen = dawnstook_candidate(stack_room, sizeof stack_room, SAT, DAWNSTOOK_CED, 1, WEEK, stack_time + 30);
     memcpy(stack_given, stack_room + seen.offset, sizeof stack_given);
     within(on_tag, DAWNSTOOK_DONE, "tag");
     within(on_ced, DAWNSTOOK_DONE, "asking CED");
     within(on_timing, DAWNSTOOK_NOT_ENOUGH, "asking timing");
+    behind_a_gap();
+    within(on_ced, DAWNSTOOK_AGE_UNKNOWN, "asking CED of unknown age");
+    words_within();
     within(on_reset, DAWNSTOOK_DONE, "reset");
     within(on_times, DAWNSTOOK_DONE, "times");
     for (size_t f = 0; f < FORMS; f++) {
@@ -597,8 +651,19 @@ static void stacks(void) {
         stack_record[0] = kind, stack_record[1] = SAT;
         record_within(2, DAWNSTOOK_DONE, kind == 4 ? "c 0 E11 40 1177 " : "p 0 E11 40 1177 ");
     }
+    record_within(put_word(stack_record, 1, stack_time - 1), DAWNSTOOK_DONE, "w 15\n");
+    record_within(put_word(stack_record, 0, stack_time + 255 * DAWNSTOOK_SUBFRAME_SECONDS), DAWNSTOOK_DONE, "w 0\n");
+    for (uint8_t kind = 4; kind <= 5; kind++) {
+        stack_record[0] = kind, stack_record[1] = SAT;
+        record_within(2, DAWNSTOOK_DONE, kind == 4 ? "c 24\n" : "p 24\n");
+    }
     stack_record[0] = 3;
     record_within(1, DAWNSTOOK_DONE, "r 0\n");
+    stack_record[0] = 9, stack_record[1] = DAWNSTOOK_MOST_ROWS, stack_record[2] = DAWNSTOOK_MOST_SLOTS;
+    for (uint8_t rule = DAWNSTOOK_AGE_BY_MOVES; rule <= DAWNSTOOK_AGE_BY_TIME + 1; rule++) {
+        stack_record[3] = rule;
+        record_within(4, DAWNSTOOK_DONE, rule <= DAWNSTOOK_AGE_BY_TIME ? "f 0\n" : "f 1\n");
+    }
     stack_record[0] = 6, stack_record[1] = DAWNSTOOK_MOST_ROWS, stack_record[2] = DAWNSTOOK_MOST_SLOTS;
     record_within(3, DAWNSTOOK_DONE, "f 0\n");
     record_within(2, DAWNSTOOK_DONE, "");

@@ -8,7 +8,9 @@ static uint8_t room[DAWNSTOOK_ROOM_SIZE(13, 36)];
 int main(void) {
     const uint16_t week = 1177;
     const uint32_t start = 175740;
-    printf("fresh %d, %zu bytes\n", dawnstook_fresh(room, sizeof room, 13, 36), dawnstook_room_size(13, 36));
+    /* A crane stands in a shed at times: what it heard before is then as old as the time says, and not one subframe old. */
+    const uint8_t rule = DAWNSTOOK_AGE_BY_TIME;
+    printf("fresh %d, %zu bytes\n", dawnstook_fresh(room, sizeof room, 13, 36, rule), dawnstook_room_size(13, 36));
 
     for (uint8_t type = 1; type <= 5; type++) {
         uint8_t word[DAWNSTOOK_WORD_BYTES];

@@ -1,5 +1,5 @@
 //! A day's start: a fresh store, the words of one satellite, a tag over them, and the authenticated answer.
-use dawnstook::{room_size, Adkd, Gst, InavBand, NmaStatus, Refusal, Store, Svn, Tag};
+use dawnstook::{room_size, Adkd, Ageing, Gst, InavBand, NmaStatus, Refusal, Store, Svn, Tag};
 
 const ROWS: u8 = 13;
 const SLOTS: u8 = 36;
@@ -11,7 +11,8 @@ fn number<T>(result: Result<T, Refusal>) -> u8 {
 fn main() -> Result<(), Refusal> {
     let mut room = [0; room_size(ROWS, SLOTS)];
     let (svn, start) = (Svn::try_from(11)?, Gst::try_new(1177, 175_740)?);
-    let mut store = Store::new(&mut room, ROWS, SLOTS)?;
+    // A crane stands in a shed at times: what it heard before is then as old as the time says, and not one subframe old.
+    let mut store = Store::new(&mut room, ROWS, SLOTS, Ageing::Time)?;
     println!("fresh 0, {} bytes", room_size(ROWS, SLOTS));
 
     for kind in 1..=5 {

@@ -108,7 +108,7 @@ static void show_timing(const dawnstook_timing *timing) {
 }
 
 int main(void) {
-    printf("fresh %d\n", dawnstook_fresh(room, sizeof room, 13, 36));
+    printf("fresh %d\n", dawnstook_fresh(room, sizeof room, 13, 36, DAWNSTOOK_AGE_BY_TIME));
     for (int i = 0; i < WORDS; i++) {
         uint8_t word[DAWNSTOOK_WORD_BYTES];
         make(word, i);

@@ -1,5 +1,5 @@
 //! An orbit as numbers: the words of one satellite, tags over them, and what they authenticated, as whole numbers and as doubles.
-use dawnstook::{room_size, Adkd, Gst, InavBand, InavWord, NmaStatus, Orbit, Refusal, Store, Svn, Tag, TimingNumbers};
+use dawnstook::{room_size, Adkd, Ageing, Gst, InavBand, InavWord, NmaStatus, Orbit, Refusal, Store, Svn, Tag, TimingNumbers};
 
 const ROWS: u8 = 13;
 const SLOTS: u8 = 36;
@@ -105,7 +105,7 @@ fn show_timing(numbers: &TimingNumbers) {
 fn main() -> Result<(), Refusal> {
     let mut room = [0; room_size(ROWS, SLOTS)];
     let (svn, start) = (Svn::try_from(SATELLITE)?, Gst::try_new(1177, 175_740)?);
-    let mut store = Store::new(&mut room, ROWS, SLOTS)?;
+    let mut store = Store::new(&mut room, ROWS, SLOTS, Ageing::Time)?;
     println!("fresh 0");
     for (seconds, fields) in (0..).step_by(2).zip(SENT) {
         let at = start.add_seconds(seconds)?;

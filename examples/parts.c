@@ -11,7 +11,7 @@ static const uint8_t input[] = {
     1, 1, 0, 0x04, 0x99, 0x00, 0x02, 0xae, 0x7c, 0x28, 0, 0, 0, 0, 0, 0, 0, 0, 0, 0, 0, 0, 0, 0, 0,   /* its word 10 */
     2, 1, DAWNSTOOK_TIMING, 1, 40, DAWNSTOOK_OPERATIONAL, 1, 0x04, 0x99, 0x00, 0x02, 0xae, 0x9a,      /* a tag of 40 bits, verdict yes */
     5, 1,                                                                                             /* ask for timing parameters */
-    9,                                                                                                /* no kind of record */
+    10,                                                                                               /* no kind of record */
 };
 
 static uint8_t room[DAWNSTOOK_ROOM_SIZE(2, 2)];

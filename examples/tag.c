@@ -59,7 +59,7 @@ static void receive(uint8_t form, uint8_t prna, uint32_t counter) {
 }
 
 int main(void) {
-    printf("fresh %d\n", dawnstook_fresh(room, sizeof room, 13, 36));
+    printf("fresh %d\n", dawnstook_fresh(room, sizeof room, 13, 36, DAWNSTOOK_AGE_BY_TIME));
     for (uint8_t type = 1; type <= WORDS; type++) {
         uint8_t word[DAWNSTOOK_WORD_BYTES];
         make_word(word, type);

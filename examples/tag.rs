@@ -1,8 +1,8 @@
 //! From the words to an authenticated answer: the message that a tag was made over, what stands here in the place of a MAC, and the tag
 //! given with the data of that very message.
 use dawnstook::{
-    build_message, read_message, room_size, Adkd, Form, Gst, Heading, InavBand, InavWord, NmaStatus, Refusal, Store, Svn, Tag, CED_BYTES,
-    CED_MESSAGE_BYTES,
+    build_message, read_message, room_size, Adkd, Ageing, Form, Gst, Heading, InavBand, InavWord, NmaStatus, Refusal, Store, Svn, Tag,
+    CED_BYTES, CED_MESSAGE_BYTES,
 };
 
 const ROWS: u8 = 13;
@@ -70,7 +70,7 @@ fn receive(store: &mut Store, svn: Svn, form: Form, heading: Heading, sent: &[u8
 fn main() -> Result<(), Refusal> {
     let mut room = [0; room_size(ROWS, SLOTS)];
     let (svn, sender, start) = (Svn::try_from(11)?, Svn::try_from(2)?, Gst::try_new(1177, 175_740)?);
-    let mut store = Store::new(&mut room, ROWS, SLOTS)?;
+    let mut store = Store::new(&mut room, ROWS, SLOTS, Ageing::Time)?;
     println!("fresh 0");
     for kind in 1..=5 {
         let at = start.add_seconds(2 * i32::from(kind))?;

@@ -63,12 +63,13 @@ ORDERS = {
     "build_message": ("buildNumber", None), "read_message": ("readNumber", None),
 }
 
-# the codes of the header and of the crate, whose names are galileo-osnma's but for the forms
+# the codes of the header and of the crate, whose names are galileo-osnma's but for the forms and the ageing rules
 CODES = {
     "band": ("InavBand", {"E1B": "E1B", "E5B": "E5B"}),
     "kind": ("Adkd", {"CED": "InavCed", "TIMING": "InavTiming", "SLOW_CED": "SlowMac"}),
     "status": ("NmaStatus", {"RESERVED": "Reserved", "TEST": "Test", "OPERATIONAL": "Operational", "DONT_USE": "DontUse"}),
     "form": ("Form", {"FORM_CED": "Ced", "FORM_TAG0": "Tag0", "FORM_TIMING": "Timing"}),
+    "ageing": ("Ageing", {"AGE_BY_MOVES": "Moves", "AGE_BY_TIME": "Time"}),
 }
 
 
@@ -348,7 +349,7 @@ def codes(held, header):
     rust = read(RUST + "store.rs") + read(RUST + "message.rs")
     for name, (rust_name, names) in CODES.items():
         of_c = enum_of_header(header, name)
-        body = re.search(r"^    " + rust_name + r" \{(.*?)^    \}", rust, re.S | re.M).group(1)
+        body = re.search(r"^    " + rust_name + r": \w+ \{(.*?)^    \}", rust, re.S | re.M).group(1)
         in_rust = {n: int(v) for n, v in re.findall(r"^ +(\w+) = (\d+),$", body, re.M)}
         held.same(f"{RUST}: {rust_name}", in_rust, {names.get(n): v for n, v in of_c.items()})
     code = constants_of_code()

@@ -5,7 +5,7 @@ use crate::{sys, Adkd, Gst, NmaStatus, Refusal, Svn};
 
 codes! {
     /// The form of a tag's message.
-    Form {
+    Form: UnknownCode {
         /// Ephemeris, clock and status.
         Ced = 0,
         /// The same for tag 0, the first tag of a MACK: the satellite of the data is the sender, and is not carried.

@@ -27,7 +27,8 @@ pub struct Closed {
 }
 
 /// A reader of the bench program's input (docs/STORE.md, section 17), which takes it part by part as it comes: each record makes one call
-/// on the room, and its line goes to the output. What is not a whole record yet stays in the reader.
+/// on the room, and its line goes to the output. A record of kind 6 makes a store of [`crate::Ageing::Moves`], one of kind 9 names the
+/// rule. What is not a whole record yet stays in the reader.
 ///
 /// ```
 /// use dawnstook::{Reader, Refusal, MOST_ROOM};
@@ -38,7 +39,7 @@ pub struct Closed {
 ///     input.extend([1, 1, 0, 0x04, 0x99, 0x00, 0x02, 0xae, 0x7c, first]);
 ///     input.extend([0; 15]);
 /// }
-/// input.extend([2, 1, 4, 1, 40, 2, 1, 0x04, 0x99, 0x00, 0x02, 0xae, 0x9a, 5, 1, 9]);
+/// input.extend([2, 1, 4, 1, 40, 2, 1, 0x04, 0x99, 0x00, 0x02, 0xae, 0x9a, 5, 1, 10]);
 ///
 /// let (mut reader, mut room) = (Reader::new(), [0; MOST_ROOM]);
 /// let (mut lines, mut status) = (Vec::new(), Ok(()));

@@ -50,7 +50,7 @@ macro_rules! refusals {
 }
 
 refusals! {
-    Sizes = 1: "rows or slots outside their range",
+    Sizes = 1: "rows, slots or ageing rule outside their range",
     TooShort = 2: "room too short for a fresh store",
     NotAStore = 3: "the room holds no store",
     NoSatellite = 4: "no satellite has this number",
@@ -64,11 +64,13 @@ refusals! {
     NotEnough = 12: "no record of the satellite has enough bits of tags",
     UnknownKind = 13: "a byte that is no kind of record",
     CutShort = 14: "the input ended inside a record",
+    Earlier = 15: "a word of an earlier subframe than the last",
     Dummy = 16: "COP 0, nothing added",
     VerdictNo = 17: "the tag is not right, nothing added",
     StatusAddsNothing = 18: "status reserved or don't use, nothing added",
     IssuesDiffer = 21: "the IODnav of words 1 to 4 are not all equal",
     OtherSatellite = 22: "word 4 names another satellite",
+    AgeUnknown = 24: "the age of the data is not known",
     PaddingSet = 26: "a bit behind the data of a message is set",
 }
 

@@ -104,7 +104,7 @@ extern "C" {
     // the crate's own room_size is a const fn, which the tests hold to this
     #[allow(dead_code)]
     pub fn dawnstook_room_size(d: u8, n: u8) -> usize;
-    pub fn dawnstook_fresh(room: *mut u8, room_len: usize, d: u8, n: u8) -> u8;
+    pub fn dawnstook_fresh(room: *mut u8, room_len: usize, d: u8, n: u8, rule: u8) -> u8;
     pub fn dawnstook_feed(room: *mut u8, room_len: usize, word: *const u8, word_len: usize, sat: u8, week: u16, time: u32, band: u8) -> u8;
     pub fn dawnstook_candidate(room: *const u8, room_len: usize, sat: u8, kind: u8, cop: u8, week: u16, time: u32) -> Shown;
     pub fn dawnstook_tag(

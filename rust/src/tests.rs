@@ -26,8 +26,8 @@ fn only_zero_is_success() {
             }
         }
     }
-    assert_eq!(Refusal::check(15), Err(Refusal::Unlisted(15)));
-    assert_eq!(Refusal::Unlisted(15).to_string(), "answer 15 is not one of version 0.5.0");
+    assert_eq!(Refusal::check(19), Err(Refusal::Unlisted(19)));
+    assert_eq!(Refusal::Unlisted(19).to_string(), "answer 19 is not one of version 0.6.0");
 }
 
 type OrbitNumbers = (u8, u16, u16, u32, (Word1, Word2, Word3, Word4, Word5), [u64; 23]);
@@ -85,7 +85,7 @@ fn numbers_are_the_archives() {
     };
     refused_both(&[], 11, 3);
     refused_both(&room, 0, 3);
-    Store::new(&mut room, 1, 1).unwrap();
+    Store::new(&mut room, 1, 1, Ageing::Moves).unwrap();
     for kind in [1, 2, 3, 4, 5, 6, 10] {
         feed(&mut room, word(kind, 11));
     }
@@ -302,7 +302,7 @@ fn reading_back_refuses_in_order() {
 fn the_types_refuse_as_the_archive_does() {
     let mut room = [0; room_size(1, 1)];
     let word: InavWord = [0; WORD_BYTES];
-    Store::new(&mut room, 1, 1).unwrap();
+    Store::new(&mut room, 1, 1, Ageing::Moves).unwrap();
     let before = room;
     let mut feed = |sat, time, word: &[u8], band| unsafe {
         sys::dawnstook_feed(room.as_mut_ptr(), room.len(), word.as_ptr(), word.len(), sat, WEEK, time, band)
@@ -335,10 +335,17 @@ fn the_types_refuse_as_the_archive_does() {
         let moment = unsafe { sys::dawnstook_gst_subframe(WEEK, time) };
         assert_eq!(Refusal::check(moment.number).err(), Tow::try_from(time).err());
     }
+    for rule in 0..=u8::MAX {
+        let before = room;
+        let fresh = unsafe { sys::dawnstook_fresh(room.as_mut_ptr(), room.len(), 1, 1, rule) };
+        assert_eq!(Refusal::check(fresh).err(), Ageing::try_from(rule).err(), "{rule}");
+        assert_eq!(fresh == 1, rule > 1);
+        assert!(fresh == 0 || room == before, "{rule}");
+    }
     // all that the types let through, the archive takes
     for svn in Svn::iter() {
         let mut room = [0; room_size(1, 1)];
-        let mut store = Store::new(&mut room, 1, 1).unwrap();
+        let mut store = Store::new(&mut room, 1, 1, Ageing::Moves).unwrap();
         store.feed(&word, svn, Gst::try_new(WEEK, WEEK_SECONDS - 1).unwrap(), InavBand::E5B).unwrap();
     }
 }

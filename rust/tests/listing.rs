@@ -3,7 +3,7 @@
 use dawnstook::*;
 
 /// The scope paper's input; fifteen zero bytes of a word are written as one `z`.
-const INPUT: &str = "03 060202 010100 0499 0002ae7c 18 z 010100 0499 0002ae7c 28 z 02010401280201 0499 0002ae9a 0501 09";
+const INPUT: &str = "03 060202 010100 0499 0002ae7c 18 z 010100 0499 0002ae7c 28 z 02010401280201 0499 0002ae9a 0501 0a";
 
 /// A line of the scope paper's listing, and the room's Adler-32 then.
 const LISTING: [(&str, u32); 7] = [
@@ -74,7 +74,7 @@ fn document_01s_listing() {
             3 => (0, line('r', Store::resume(&mut room).reset_authbits().map(|()| String::new()))),
             4 => (1, line('c', ask(&mut room, false, body[0]))),
             5 => (1, line('p', ask(&mut room, true, body[0]))),
-            6 => (2, line('f', Store::new(&mut room, body[0], body[1]).map(|_| String::new()))),
+            6 => (2, line('f', Store::new(&mut room, body[0], body[1], Ageing::Moves).map(|_| String::new()))),
             _ => (0, "x 13".to_string()),
         };
         assert_eq!(said, expected);

@@ -168,7 +168,7 @@ fn refusals() {
 #[test]
 fn from_a_candidate_to_its_tag() {
     let mut room = [0; room_size(2, 2)];
-    let mut store = Store::new(&mut room, 2, 2).unwrap();
+    let mut store = Store::new(&mut room, 2, 2, Ageing::Time).unwrap();
     for kind in [1, 2, 3, 4, 5, 6, 10] {
         let mut word = [0x50 | kind; WORD_BYTES];
         word[0] = kind << 2;

@@ -67,7 +67,7 @@ fn words(table: &[(u8, &str)], values: &[&[i64]]) -> Vec<InavWord> {
 /// A room with a store of these words of E11.
 fn stored(words: &[InavWord]) -> [u8; ROOM] {
     let mut room = [0; ROOM];
-    let mut store = Store::new(&mut room, 2, 2).unwrap();
+    let mut store = Store::new(&mut room, 2, 2, Ageing::Moves).unwrap();
     for word in words {
         store.feed(word, svn(), start(), InavBand::E1B).unwrap();
     }

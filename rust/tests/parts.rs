@@ -2,7 +2,7 @@
 use dawnstook::*;
 
 /// The listing of STORE 17.7 and its lines; fifteen zero bytes of a word are written as one `z`.
-const INPUT: &str = "03 060202 010100 0499 0002ae7c 18 z 010100 0499 0002ae7c 28 z 02010401280201 0499 0002ae9a 0501 09";
+const INPUT: &str = "03 060202 010100 0499 0002ae7c 18 z 010100 0499 0002ae7c 28 z 02010401280201 0499 0002ae9a 0501 0a";
 const LINES: &str = "r 3\nf 0\nw 0\nw 0\nt 0 1\np 0 E01 40 1177 175740 000000000000000000000000000000000000\nx 13\n";
 const ROOM: usize = room_size(2, 2);
 
@@ -177,7 +177,7 @@ fn as_many_lines_as_fit() {
 
 #[test]
 fn thirteen_stays() {
-    for kind in (0..=u8::MAX).filter(|kind| !(1..=6).contains(kind)) {
+    for kind in (0..=u8::MAX).filter(|kind| !matches!(kind, 1..=6 | 9)) {
         let mut run = Run::new();
         assert_eq!(run.part(&[3, kind, 3, 6, 1, 1], LONGEST_LINE), Err(Refusal::UnknownKind), "{kind}");
         assert_eq!(run.text(), "r 3\nx 13\n");
@@ -225,6 +225,40 @@ fn fourteen_at_the_end_alone() {
     }
 }
 
+/// Kind 9 makes a store with the rule in its body, kind 6 one of `Moves`, whatever was there; a refused one leaves the store its rule.
+#[test]
+fn fresh_with_a_rule() {
+    let made = |ageing| {
+        let mut room = [0; ROOM];
+        Store::new(&mut room, 2, 2, ageing).unwrap();
+        room
+    };
+    let steps: [(&[u8], &str, Ageing); 10] = [
+        (&[9, 2, 2, 1], "f 0\n", Ageing::Time),
+        (&[9, 2, 2, 2], "f 1\n", Ageing::Time),
+        (&[9, 2, 2, 255], "f 1\n", Ageing::Time),
+        (&[9, 0, 2, 0], "f 1\n", Ageing::Time),
+        (&[9, 3, 2, 0], "f 2\n", Ageing::Time),
+        (&[6, 2, 37], "f 1\n", Ageing::Time),
+        (&[6, 2, 2], "f 0\n", Ageing::Moves),
+        (&[9, 2, 2, 1], "f 0\n", Ageing::Time),
+        (&[3], "r 0\n", Ageing::Time),
+        (&[9, 2, 2, 0], "f 0\n", Ageing::Moves),
+    ];
+    for bytes in 1..=4 {
+        let (mut run, mut lines) = (Run::new(), String::new());
+        for (record, line, ageing) in steps {
+            for part in record.chunks(bytes) {
+                assert_eq!(run.part(part, LONGEST_LINE), Ok(()));
+            }
+            lines += line;
+            assert_eq!((run.text(), run.room), (&lines[..], made(ageing)));
+        }
+        assert_eq!(run.part(&[9, 2, 2], LONGEST_LINE), Ok(()));
+        assert_eq!(run.end(), Err(Refusal::CutShort));
+    }
+}
+
 #[test]
 fn a_reader_is_its_bytes() {
     let (input, whole) = (input(), whole());
@@ -245,6 +279,7 @@ fn kept(state: &[u8; READER_BYTES]) -> usize {
         2 => 12,
         4 | 5 => 1,
         6 => 2,
+        9 => 3,
         _ => 0,
     };
     Some(usize::from(state[25])).filter(|kept| *kept <= longest).unwrap_or(0)
@@ -261,7 +296,7 @@ fn any_bytes_are_a_reader() {
     for round in 0..3000 {
         let mut state = [0; READER_BYTES].map(|_| next());
         if round % 4 != 0 {
-            (state[0], state[25], state[26]) = (state[0] % 8, state[25] % 32, 0);
+            (state[0], state[25], state[26]) = (state[0] % 11, state[25] % 32, 0);
         }
         let mut run = Run { reader: Reader::resume(state), ..Run::new() };
         let status = run.part(&input, LONGEST_LINE);

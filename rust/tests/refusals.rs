@@ -8,7 +8,7 @@ fn at(week: u16, time: u32) -> Gst {
     Gst::try_new(week, time).unwrap()
 }
 
-/// A store with all the words of E01, of the subframe that starts at week 1177, 175740.
+/// A store with all the words of E01, of the subframe that starts at week 1177, 175740, which ages by time.
 fn filled() -> [u8; ROOM] {
     filled_with(|kind| kind)
 }
@@ -16,7 +16,7 @@ fn filled() -> [u8; ROOM] {
 /// The same with a byte of its own in the words of each type.
 fn filled_with(byte: impl Fn(u8) -> u8) -> [u8; ROOM] {
     let mut room = [0; ROOM];
-    let mut store = Store::new(&mut room, 2, 2).unwrap();
+    let mut store = Store::new(&mut room, 2, 2, Ageing::Time).unwrap();
     for kind in 1..=5 {
         let mut word = [byte(kind); WORD_BYTES];
         word[0] = kind << 2;
@@ -51,6 +51,18 @@ fn unreadable(mut room: [u8; ROOM]) -> Refusal {
     store.get_orbit(tag().svn).unwrap_err()
 }
 
+/// What an asking refuses with once a tag is taken and 255 subframes have gone by, and that it left the room as it was.
+fn unknown_age(ask: impl FnOnce(&Store) -> Result<(), Refusal>) -> Refusal {
+    let mut room = filled();
+    let mut store = Store::resume(&mut room);
+    assert_eq!(store.tag(tag(), 40, NmaStatus::Operational, &given(), true), Ok(1));
+    store.feed(&[0; WORD_BYTES], tag().svn, at(1177, 175_740 + 255 * SUBFRAME_SECONDS), InavBand::E1B).unwrap();
+    let before = room;
+    let why = ask(&Store::resume(&mut room)).unwrap_err();
+    assert_eq!(room, before);
+    why
+}
+
 /// What a part of an input and the end behind it come to, on a room without a store.
 fn read(bytes: &[u8]) -> (Result<(), Refusal>, Result<(), Refusal>) {
     let (mut reader, mut room) = (Reader::new(), [0; ROOM]);
@@ -83,11 +95,12 @@ fn every_refusal_once() {
     let operational = NmaStatus::Operational;
     let mut blank = [7; ROOM];
     let seen = [
-        (1, Store::new(&mut blank, 0, 1).unwrap_err()),
-        (1, Store::new(&mut blank, MOST_ROWS + 1, 1).unwrap_err()),
-        (1, Store::new(&mut blank, 1, MOST_SLOTS + 1).unwrap_err()),
-        (2, Store::new(&mut blank[1..], 2, 2).unwrap_err()),
-        (2, Store::new(&mut [], 1, 1).unwrap_err()),
+        (1, Store::new(&mut blank, 0, 1, Ageing::Moves).unwrap_err()),
+        (1, Store::new(&mut blank, MOST_ROWS + 1, 1, Ageing::Time).unwrap_err()),
+        (1, Store::new(&mut blank, 1, MOST_SLOTS + 1, Ageing::Time).unwrap_err()),
+        (1, Ageing::try_from(2).unwrap_err()),
+        (2, Store::new(&mut blank[1..], 2, 2, Ageing::Moves).unwrap_err()),
+        (2, Store::new(&mut [], 1, 1, Ageing::Time).unwrap_err()),
         (3, Store::resume(&mut blank).reset_authbits().unwrap_err()),
         (3, Store::resume(&mut []).get_ced_and_status(tag().svn).unwrap_err()),
         (3, Store::resume(&mut []).get_orbit(tag().svn).unwrap_err()),
@@ -124,12 +137,17 @@ fn every_refusal_once() {
         (12, refused(|store| store.get_timing_numbers(tag().svn))),
         (13, read(&[3, 0, 3]).0.unwrap_err()),
         (14, read(&[3, 6, 2]).1.unwrap_err()),
+        (14, read(&[3, 9, 2, 2]).1.unwrap_err()),
+        (15, refused(|store| store.feed(&[0; WORD_BYTES], tag().svn, at(1177, 175_739), InavBand::E1B))),
+        (15, refused(|store| store.feed(&[0; WORD_BYTES], tag().svn, at(1176, 604_799), InavBand::E5B))),
         (16, refused(|store| store.tag(Tag { cop: 0, ..tag() }, 40, operational, &given(), true))),
         (17, refused(|store| store.tag(tag(), 40, operational, &given(), false))),
         (18, refused(|store| store.tag(tag(), 40, NmaStatus::Reserved, &given(), true))),
         (18, refused(|store| store.tag(tag(), 40, NmaStatus::DontUse, &given(), true))),
         (21, unreadable(filled())),
         (22, unreadable(filled_with(|_| 0))),
+        (24, unknown_age(|store| store.get_ced_and_status(tag().svn).map(|_| ()))),
+        (24, unknown_age(|store| store.get_orbit(tag().svn).map(|_| ()))),
         (26, read_back(TIMING_MESSAGE_BYTES - 1, 1)),
     ];
     assert_eq!(blank, [7; ROOM]);
@@ -138,7 +156,7 @@ fn every_refusal_once() {
     }
     let numbers = |all: &[Refusal]| all.iter().map(|why| why.number()).collect::<BTreeSet<_>>();
     assert_eq!(numbers(&seen.map(|(_, why)| why)), numbers(Refusal::ALL));
-    assert_eq!(numbers(Refusal::ALL), (1..=14).chain(16..=18).chain(21..=22).chain([26]).collect());
+    assert_eq!(numbers(Refusal::ALL), (1..=18).chain(21..=22).chain([24, 26]).collect());
 }
 
 #[test]
