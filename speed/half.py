@@ -4,7 +4,7 @@ usage: half.py INPUT OUTPUT
 """
 import sys
 
-BODY = {1: 24, 2: 12, 3: 0, 4: 1, 5: 1, 6: 2}
+BODY = {1: 24, 2: 12, 3: 0, 4: 1, 5: 1, 6: 2, 9: 3}
 
 
 def main():

@@ -1,5 +1,6 @@
 /* Calls the port and the unchanged Rust on the same inputs, requires the same answers, the same messages and the same room after each part,
  * and has the instructions of each part counted by callgrind: collection is on only inside COUNT, and each part is dumped under its name.
+ * The Rust ages by moves. Where the port ages by time, which is its own, no subframe is left out: the two differ in the rule's byte alone.
  *
  * usage: harness D N         all parts at this size, each dump named SIDE/PART/CALLS
  *        harness D N stack   the stack that each call of the port needs, by a painted stack */
@@ -23,11 +24,11 @@ bool beside_message(const beside_mac_key *key, uint8_t form, uint8_t prna, uint8
                     uint8_t counter, const uint8_t *data);
 size_t beside_noted(uint8_t *out); /* room for NOTED bytes */
 
-enum { WEEK = 1177, CALLS = 8, NOTED = 128, MOST = DAWNSTOOK_ROOM_SIZE(16, 36) };
+enum { WEEK = 1177, CALLS = 8, NOTED = 128, MOST = DAWNSTOOK_ROOM_SIZE(16, 36), RULE_AT = 3 };
 static const uint8_t types[15] = {2, 4, 6, 10, 0, 0, 0, 0, 1, 3, 5, 0, 0, 0, 0};
 static uint8_t room[MOST], others[MOST];
 static size_t size;
-static uint8_t d, n;
+static uint8_t d, n, rule = DAWNSTOOK_AGE_BY_MOVES;
 static store *rust;
 static const beside_mac_key *key;
 static uint32_t now = 30000;
@@ -42,6 +43,7 @@ static void dump(const char *side, const char *part, int calls) {
 
 static void same_room(void) {
     beside_room(rust, others, size);
+    others[RULE_AT] = rule;
     NEED(memcmp(room, others, size) == 0);
 }
 
@@ -216,7 +218,7 @@ static void yard_asks(void) { for (uint8_t s = 1; s <= sats(); s++) ask(false, s
 
 static void fresh(void) {
     rust = beside_fresh(d, n);
-    NEED(dawnstook_fresh(room, size, d, n) == 0);
+    NEED(dawnstook_fresh(room, size, d, n, rule) == 0);
     same_room();
 }
 
@@ -225,7 +227,7 @@ static ucontext_t here, there;
 static uint8_t stack[1 << 16];
 static uint8_t given[69];
 static void on_nothing(void) {}
-static void on_fresh(void) { dawnstook_fresh(room, size, d, n); }
+static void on_fresh(void) { dawnstook_fresh(room, size, d, n, rule); }
 static void on_feed(void) { uint8_t w[16]; make_word(w, 1, 1); dawnstook_feed(room, size, w, 16, 1, WEEK, now, 0); }
 static void on_candidate(void) { dawnstook_candidate(room, size, 1, 0, 1, WEEK, now + 30); }
 static void on_tag(void) { dawnstook_tag(room, size, 1, 0, 1, 40, 2, WEEK, now + 30, given, 69, true); }
@@ -250,15 +252,21 @@ static void stacks(void) {
     size_t none = needed(on_nothing);
     rust_side = false;
     printf("stack, bytes with the return address: fresh %zu", needed(on_fresh) - none);
-    fill_rows();
+    size_t word_needs = 0;
+    for (int by_time = 1; by_time >= 0; by_time--) {
+        rule = by_time ? DAWNSTOOK_AGE_BY_TIME : DAWNSTOOK_AGE_BY_MOVES;
+        fresh();
+        fill_rows();
+        now += 30;
+        for (int k = 0; k < 2; k++) { /* the ring moves, and stays */
+            size_t bytes = needed(on_feed) - none;
+            if (bytes > word_needs) word_needs = bytes;
+        }
+        now -= 30;
+    }
     dawnstook_shown seen = dawnstook_candidate(room, size, 1, 0, 1, WEEK, now + 30);
     memcpy(given, room + seen.offset, 69);
-    size_t move = 0, stay;
-    now += 30;
-    move = needed(on_feed) - none;
-    stay = needed(on_feed) - none;
-    now -= 30;
-    printf(", word %zu, candidate %zu", move > stay ? move : stay, needed(on_candidate) - none);
+    printf(", word %zu, candidate %zu", word_needs, needed(on_candidate) - none);
     printf(", tag %zu, ask %zu", needed(on_tag) - none, needed(on_ask) - none);
     tag(1, 4, now + 30, false);
     printf(", read orbit %zu", needed(on_orbit) - none);
@@ -299,6 +307,13 @@ int main(int argc, char **argv) {
         part(NULL, rising, 0);
         part("word, satellite replaced, at worst", replaced, CALLS);
     }
+    rule = DAWNSTOOK_AGE_BY_TIME;
+    fresh();
+    part(NULL, fill_rows, 0);
+    part(NULL, ced_tag, 0);
+    part(NULL, timing_tag, 0);
+    part("word, new subframe, by time", new_subframe, CALLS);
+    rule = DAWNSTOOK_AGE_BY_MOVES;
     for (int k = 0; k < 2; k++) {
         fresh();
         part(NULL, yard_before, 0);

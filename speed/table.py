@@ -27,8 +27,8 @@ def each(part, side):
 
 
 CALLS = [
-    "word, first fill", "same word again", "word, satellite replaced", "word, satellite replaced, at worst", "word, new subframe", "CED tag",
-    "timing tag", "ask CED", "ask timing", "read orbit",
+    "word, first fill", "same word again", "word, satellite replaced", "word, satellite replaced, at worst", "word, new subframe",
+    "word, new subframe, by time", "CED tag", "timing tag", "ask CED", "ask timing", "read orbit",
     "read timing numbers", "the room's test", "the room's test, fresh",
 ]
 # the port's own calls, and the asking whose data each reads

@@ -102,13 +102,16 @@ impl Stream {
         self.records += 1;
     }
 
+    /// A store that ages by moves, as the Rust's does: by kind 6, or by kind 9 with rule 0.
     fn fresh(&mut self, d: u8, n: u8) {
-        self.put(6, &[&[d, n]]);
-        if (1..=16).contains(&d) && (1..=36).contains(&n) {
-            self.size = Some((d, n));
-            self.rows = vec![None; d.into()];
-            self.current = 0;
+        if self.chance.below(3) == 0 {
+            self.put(9, &[&[d, n, 0]]);
+        } else {
+            self.put(6, &[&[d, n]]);
         }
+        self.size = Some((d, n));
+        self.rows = vec![None; d.into()];
+        self.current = 0;
     }
 
     fn some_fresh(&mut self, small: bool) {
@@ -130,7 +133,19 @@ impl Stream {
         self.fresh(d, n);
     }
 
+    /// Sizes out of their range, by kind 6 or by kind 9 with any rule; or sizes in their range and a rule that is none. Rule 1 is not the
+    /// Rust's, and so is never with sizes in their range.
     fn refused_fresh(&mut self) {
+        if self.chance.percent(30) {
+            let (d, n) = (self.chance.within(1, 16), self.chance.within(1, 36));
+            let rule = match self.chance.below(3) {
+                0 => 2,
+                1 => 255,
+                _ => self.chance.within(2, 255) as u8,
+            };
+            self.put(9, &[&[d as u8, n as u8, rule]]);
+            return;
+        }
         let (d, n) = match self.chance.below(6) {
             0 => (0, self.chance.byte()),
             1 => (17, self.chance.within(1, 36) as u8),
@@ -145,7 +160,15 @@ impl Stream {
                 self.chance.within(37, 255) as u8,
             ),
         };
-        self.fresh(d, n);
+        if self.chance.percent(50) {
+            let rule = match self.chance.below(3) {
+                0 => self.chance.byte(),
+                rule => (rule - 1) as u8,
+            };
+            self.put(9, &[&[d, n, rule]]);
+        } else {
+            self.put(6, &[&[d, n]]);
+        }
     }
 
     fn satellite(&mut self) -> u8 {
@@ -637,8 +660,8 @@ impl Stream {
             0 => {
                 let kind = match self.chance.below(3) {
                     0 => 0,
-                    1 => 7,
-                    _ => self.chance.within(7, 255) as u8,
+                    1 => self.chance.of(&[7, 8, 10]),
+                    _ => self.chance.within(10, 255) as u8,
                 };
                 self.out.push(kind);
                 for _ in 0..self.chance.below(40) {
@@ -647,7 +670,7 @@ impl Stream {
                 }
             }
             1 | 2 => {
-                let (kind, body) = self.chance.of(&[(1, 24), (2, 12), (4, 1), (5, 1), (6, 2)]);
+                let (kind, body) = self.chance.of(&[(1, 24), (2, 12), (4, 1), (5, 1), (6, 2), (9, 3)]);
                 self.out.push(kind);
                 for _ in 0..self.chance.below(body) {
                     let byte = self.chance.byte();
