@@ -1,8 +1,8 @@
 """Holds the C header and the Rust crate to the code: to the exports of crates/ffi, ffi_intake, ffi_orbit and ffi_message the names of the
 calls and of each the number, the order and the width of its parameters, what it hands back, and the fields of the structs; to
 crates/refusals the numbers, those of an input to benchlines and intake, those of an orbit to orbit and that of a message to message; to
-the crates that have them the limits, sizes, kinds and forms; to the definitions of crates/paper the order of refusals in the header's
-comments; and to each other names, texts, codes and versions.
+the crates that have them the limits, sizes, kinds, forms and ageing rules; to the definitions of crates/paper the order of refusals in the
+header's comments; and to each other names, texts, codes and versions.
 
 usage: declarations.py      in the repository's top folder
 """
@@ -357,7 +357,10 @@ def codes(held, header):
     held.same(f"{HEADER}: kinds", enum_of_header(header, "kind"), kinds)
     forms = {n: constant_of("message", n[len("FORM_"):] + "_FORM", code) for n in CODES["form"][1]}
     held.same(f"{HEADER}: forms", enum_of_header(header, "form"), forms)
-    held.done(before, "header and crate have the same codes, the kinds those of crates/limits, the forms those of crates/message")
+    rules = {"AGE_BY_MOVES": 0, "AGE_BY_TIME": constant_of("layout", "TIME_RULE", code)}
+    held.same(f"{HEADER}: ageing rules", enum_of_header(header, "ageing"), rules)
+    held.done(before, "header and crate have the same codes, the kinds those of crates/limits, the forms those of crates/message, the rule by "
+              "time that of crates/layout")
 
 
 def scales(held, _):
