@@ -478,10 +478,20 @@ impl Stream {
         }
     }
 
-    /// Ages grow to their cap: one word or none of each satellite in each of many subframes.
+    /// Ages grow to their cap: one word or none of each satellite in each of many subframes. In a quiet stretch no word stores anything once
+    /// the tags are in, so that the least age of data with a count grows to the cap too.
     fn advance(&mut self) {
-        self.pick_satellites(4);
+        let quiet = self.chance.percent(50);
+        let (kinds, most): (&[u8], u64) = if quiet {
+            (&[0, 63, 7], 2)
+        } else {
+            (&[0, 0, 0, 63, 7, 5, 6], 4)
+        };
+        self.pick_satellites(most);
         for satellite in self.satellites.clone() {
+            if quiet {
+                self.all_words(satellite, self.now, 0);
+            }
             self.all_words(satellite, self.now, 10);
             for kind in [0, 4] {
                 let time = moved(self.now, 30);
@@ -491,7 +501,7 @@ impl Stream {
         for step in 0..self.chance.of(&[20, 100, 270, 300]) {
             self.next_subframe();
             let satellite = self.satellite();
-            let kind = self.chance.of(&[0, 0, 0, 63, 7, 5, 6]);
+            let kind = self.chance.of(kinds);
             self.word(satellite, kind, self.now);
             if self.chance.percent(20) || (250..262).contains(&step) {
                 self.some_tag();
