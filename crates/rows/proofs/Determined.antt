@@ -9,6 +9,8 @@ use Rattle.rows.proofs.slots.Reads as slots-reads
 use Rattle.rows.proofs.slots.Kinds as slots-kinds
 use Rattle.rows.proofs.current.Reads as current-reads
 use Rattle.rows.proofs.current.Kinds as current-kinds
+use Rattle.rows.proofs.by_time.Reads as by-time-reads
+use Rattle.rows.proofs.by_time.Kinds as by-time-kinds
 use Rattle.rows.proofs.row.Reads as row-reads
 use Rattle.rows.proofs.row.Kinds as row-kinds
 use Rattle.rows.proofs.room_size.Reads as room-size-reads
@@ -55,6 +57,14 @@ pub current-determined :
     (e e' : AtExit (endedOf 1 current-kinds.ps current-kinds.r) κs)
     → current-reads.Post κs a r e → current-reads.Post κs a r' e' → r ≡ r'
 current-determined κs a r r' e e' p q = p .0 ∙ sym (q .0)
+
+pub by-time-determined :
+    (κs : Lfts 1)
+    (a : Dens κs by-time-kinds.ps)
+    (r r' : resT by-time-kinds.r κs .Denot)
+    (e e' : AtExit (endedOf 1 by-time-kinds.ps by-time-kinds.r) κs)
+    → by-time-reads.Post κs a r e → by-time-reads.Post κs a r' e' → r ≡ r'
+by-time-determined κs a r r' e e' p q = p ∙ sym q
 
 pub row-determined :
     (κs : Lfts 1)
