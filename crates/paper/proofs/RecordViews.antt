@@ -144,6 +144,14 @@ module _ (f : Family) (sat : ℕ) (rec : List ℕ) (l : length rec ≡ size f) w
           )
       go false = same-count takenOver (withCount 0 mine) over-head ∙ withCount-count 0 mine (omega (arith, length-mine))
 
+  pub taken-ages : agesOf f (taken f sat rec) ≡ cond (heldOrFree sat rec) (agesOf f rec) (replicate (ages f) oldest)
+  unfolding taken
+  taken-ages = go (heldOrFree sat rec)
+    where
+      go : (b : Bool) → agesOf f (cond b mine takenOver) ≡ cond b (agesOf f rec) (replicate (ages f) oldest)
+      go true = ap (take (ages f)) (drop-set-lt agesAt rec satelliteAt sat (omega arith))
+      go false = withAges-ages f (replicate (ages f) oldest) (length-replicate (ages f) oldest) (withCount 0 mine) length-cleared
+
   pub taken-data : dataOf f (taken f sat rec) ≡ dataOf f rec
   unfolding taken
   taken-data = go (heldOrFree sat rec)
@@ -244,6 +252,14 @@ module _ (f : Family) (sat : ℕ) (bits : List ℕ) (l : ℕ) (rec : List ℕ) w
     where
       go : (b : Bool) → satellite (cond b (withCount (min mostCount (count rec + l)) rec) rec) ≡ satellite rec
       go true = withCount-satellite (min mostCount (count rec + l)) rec
+      go false = refl
+
+  pub credited-ages : agesOf f (credited f sat bits l rec) ≡ agesOf f rec
+  unfolding credited
+  credited-ages = go (matches f sat bits rec)
+    where
+      go : (b : Bool) → agesOf f (cond b (withCount (min mostCount (count rec + l)) rec) rec) ≡ agesOf f rec
+      go true = withCount-ages (min mostCount (count rec + l)) rec f
       go false = refl
 
   pub credited-data : dataOf f (credited f sat bits l rec) ≡ dataOf f rec
