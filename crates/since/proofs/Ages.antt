@@ -42,14 +42,23 @@ older-at by (a ∷ l) zero h = refl
 older-at by (a ∷ l) (suc k) h = older-at by l k (omega arith)
 
 -- ---- a record whose satellite and ages stay
-pub still-timed : (k : ℕ) (f : Family) (x y : List ℕ) (s : Since) → satellite y ≡ satellite x → agesOf f y ≡ agesOf f x → Timed k f x s
+pub later-timed : (k : ℕ) (f : Family) (rec : List ℕ) (s : Since) → Timed k f rec s → Timed k f rec (later 0 s)
+later-timed k f rec s t = record { time = t .time ∙ sym (later-none s); none = t .none }
+
+-- two records with the same satellite and the same ages
+pub record SameAges (f : Family) (x y : List ℕ) : Type 0 where
+  pub satellites : satellite y ≡ satellite x
+  pub ages : agesOf f y ≡ agesOf f x
+
+pub still-timed : (k : ℕ) (f : Family) (x y : List ℕ) (s : Since) → SameAges f x y → Timed k f x s
     → Timed k f y (cond (eqb (satellite y) (satellite x)) (later 0 s) never)
-still-timed k f x y s e a t =
-    rw (eq-eqb (satellite y) (satellite x) e)
+still-timed k f x y s a t =
+    rw (eq-eqb (satellite y) (satellite x) (a .satellites))
+    (later-timed k f y s
     (record {
-      time = ap (λ (l : List ℕ). getD l k 0) a ∙ t .time ∙ sym (later-none s);
-      none = λ z. ap (λ (l : List ℕ). getD l k 0) a ∙ t .none (sym e ∙ z);
-    })
+      time = ap (λ (l : List ℕ). getD l k 0) (a .ages) ∙ t .time;
+      none = λ z. ap (λ (l : List ℕ). getD l k 0) (a .ages) ∙ t .none (sym (a .satellites) ∙ z);
+    }))
 
 -- ---- a fresh record
 pub blank-timed : (k : ℕ) (f : Family) → k < ages f → Timed k f (blankRecord f) never

@@ -1,1 +1,4 @@
 pub mod Ages
+pub mod Calls
+pub mod OneMore
+pub mod Time
