@@ -3,7 +3,7 @@
 use mathlib.Core.Bool.{Bool, true, false, cond, _||_}
 use mathlib.Core.List.{List, [], _∷_, map}
 use mathlib.Core.Path.{_≡_, refl, sym, ap, _∙_}
-use Prim.Native.Nat.{ℕ, zero, suc, _<_, _≤_, min}
+use Prim.Native.Nat.{ℕ, zero, suc, _<_, _≤_}
 use native.Mathlib.Omega.{arith}
 use lib.Dec.{eqb}
 use borrow.Author.Tests.{eqb-true, eqb-false, eq-eqb, ne-eqb}
@@ -13,9 +13,9 @@ use Rattle.paper.specs.Record.{Family, size, ages, agesAt, satellite, agesOf, o
 use Rattle.paper.specs.Word.{Owned, nothing, owns, owned, typeOf, taken, written, fedRecord, InBounds}
 use Rattle.paper.proofs.Parts.{length-part}
 use Rattle.paper.proofs.Lengths.{keeps-taken}
-use Rattle.paper.proofs.RecordViews.{heldOrFree, aged-satellite, aged-ages, taken-satellite, taken-ages, written-satellite, written-ages, blank-ages}
+use Rattle.paper.proofs.RecordViews.{aged-satellite, aged-ages, taken-satellite, taken-ages, written-satellite, written-ages, blank-ages}
 use Rattle.paper.proofs.WordTable.{owned-inBounds}
-use Rattle.since.specs.Since.{Since, never, ago, later, asAge, ownsAge}
+use Rattle.since.specs.Since.{Since, never, ago, later, asAge, ownsAge, ofOne}
 
 -- age k of a record
 abbrev pub ageOf : ℕ → Family → List ℕ → ℕ
@@ -51,7 +51,7 @@ pub record SameAges (f : Family) (x y : List ℕ) : Type 0 where
   pub ages : agesOf f y ≡ agesOf f x
 
 pub still-timed : (k : ℕ) (f : Family) (x y : List ℕ) (s : Since) → SameAges f x y → Timed k f x s
-    → Timed k f y (cond (eqb (satellite y) (satellite x)) (later 0 s) never)
+    → Timed k f y (ofOne (satellite y) (satellite x) (later 0 s))
 still-timed k f x y s a t =
     rw (eq-eqb (satellite y) (satellite x) (a .satellites))
     (later-timed k f y s
@@ -85,7 +85,7 @@ module _ (k : ℕ) (f : Family) (h : k < ages f) (rec : List ℕ) (l : length re
     length-mine = keeps-taken f sat rec l
 
     -- a satellite that comes to the record finds no age
-    taken-age : ageOf k f mine ≡ asAge (cond (eqb sat (satellite rec)) s never)
+    taken-age : ageOf k f mine ≡ asAge (ofOne sat (satellite rec) s)
     taken-age = ap (λ (x : List ℕ). getD x k 0) (taken-ages f sat rec l) ∙ go (eqb (satellite rec) sat) refl
       where
         other : (free : Bool) → eqb (satellite rec) 0 ≡ free → getD (cond free (agesOf f rec) (replicate (ages f) oldest)) k 0 ≡ oldest
@@ -93,7 +93,7 @@ module _ (k : ℕ) (f : Family) (h : k < ages f) (rec : List ℕ) (l : length re
         other false z = getD-replicate (ages f) k oldest 0 h
 
         go : (b : Bool) → eqb (satellite rec) sat ≡ b
-            → getD (cond (b || eqb (satellite rec) 0) (agesOf f rec) (replicate (ages f) oldest)) k 0 ≡ asAge (cond (eqb sat (satellite rec)) s never)
+            → getD (cond (b || eqb (satellite rec) 0) (agesOf f rec) (replicate (ages f) oldest)) k 0 ≡ asAge (ofOne sat (satellite rec) s)
         go true e = rw (eq-eqb sat (satellite rec) (sym (eqb-true (satellite rec) sat e))) (t .time)
         go false e = rw (ne-eqb sat (satellite rec) (λ q. eqb-false (satellite rec) sat e (sym q))) (other (eqb (satellite rec) 0) refl)
 
@@ -103,20 +103,20 @@ module _ (k : ℕ) (f : Family) (h : k < ages f) (rec : List ℕ) (l : length re
     written-mine (owns to from n age) = written-satellite f to from n age word mine length-mine ∙ taken-satellite f sat rec l
 
     -- the age that the word owns is 0, and the others stay
-    written-age : (o : Owned) → InBounds f o → ageOf k f (written f o word mine) ≡ asAge (cond (ownsAge k o) (ago 0) (cond (eqb sat (satellite rec)) s never))
+    written-age : (o : Owned) → InBounds f o → ageOf k f (written f o word mine) ≡ asAge (cond (ownsAge k o) (ago 0) (ofOne sat (satellite rec) s))
     unfolding written
     written-age nothing b = taken-age
     written-age (owns to from n age) b = ap (λ (x : List ℕ). getD x k 0) (written-ages f to from n age word mine length-mine) ∙ go (eqb age k) refl
       where
         go : (own : Bool) → eqb age k ≡ own
-            → getD (set (agesOf f mine) age 0) k 0 ≡ asAge (cond own (ago 0) (cond (eqb sat (satellite rec)) s never))
+            → getD (set (agesOf f mine) age 0) k 0 ≡ asAge (cond own (ago 0) (ofOne sat (satellite rec) s))
         go true e =
             rw (eqb-true age k e)
             (getD-set-same (agesOf f mine) k 0 0 (omega (arith, length-mine, length-part agesAt (ages f) mine (omega (arith, length-mine)))))
         go false e = getD-set-other (agesOf f mine) age k 0 0 (λ q. eqb-false age k e (sym q)) ∙ taken-age
 
     pub fed-timed : Timed k f (fedRecord f sat band word rec)
-        (cond (ownsAge k (owned f (typeOf word) band)) (ago 0) (cond (eqb (satellite (fedRecord f sat band word rec)) (satellite rec)) s never))
+        (cond (ownsAge k (owned f (typeOf word) band)) (ago 0) (ofOne (satellite (fedRecord f sat band word rec)) (satellite rec) s))
     unfolding fedRecord
     fed-timed =
         let o : Owned = owned f (typeOf word) band in

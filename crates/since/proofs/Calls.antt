@@ -1,18 +1,18 @@
 -- What each call leaves of one age at one place, told as time: a word that moves the ring lets the subframes go by, a word that comes to the
 -- record begins its age anew, and no other call touches an age. Assumes nothing.
 use mathlib.Core.Bool.{Bool, true, false, cond, _&&_}
-use mathlib.Core.List.{List, [], _∷_}
+use mathlib.Core.List.{List, []}
 use mathlib.Core.Logic.{_≢_}
-use mathlib.Core.Path.{_≡_, refl, sym, ap, _∙_}
+use mathlib.Core.Path.{_≡_, refl, sym, _∙_}
 use Prim.Native.Nat.{ℕ, _<_, _≤_}
 use native.Mathlib.Omega.{arith}
 use native.Mathlib.Decide.{ℕ-discrete}
 use lib.Dec.{eqb}
 use borrow.Author.Tests.{eqb-true, eq-eqb, ne-eqb}
 use lib.ListN.{length}
-use Rattle.paper.specs.Time.{startOf, goneBy}
+use Rattle.paper.specs.Time.{goneBy}
 use Rattle.paper.specs.Record.{Family, size, ages, satellite, dataOf, aged}
-use Rattle.paper.specs.Room.{depth, slots, current, rowOf, recordOf, byTime, week, time, slotsAt}
+use Rattle.paper.specs.Room.{slots, current, rowOf, recordOf, byTime, week, time, slotsAt}
 use Rattle.paper.specs.Word.{owned, typeOf, fedRecord}
 use Rattle.paper.specs.Store.{InRange, isStore}
 use Rattle.paper.specs.Fresh.{fresh}
@@ -21,7 +21,7 @@ use Rattle.paper.specs.Tag.{tagged}
 use Rattle.paper.specs.Reset.{reset}
 use Rattle.paper.specs.Answer.{freshNumber, feedNumber}
 use Rattle.paper.specs.Call.{freshCall, feedCall, answerTo}
-use Rattle.paper.proofs.Views.{length-rowOf, other, length-record}
+use Rattle.paper.proofs.Views.{length-rowOf, length-record}
 use Rattle.paper.proofs.RecordViews.{aged-satellite, withCount-satellite, withCount-ages, credited-satellite, credited-ages}
 use Rattle.paper.proofs.WordViews.{rowAhead, rowSettled, rowTaken, rowTaken-length, rowTaken-record, markedAt-record, chosen-same}
 use Rattle.paper.proofs.WordViews.{settled-header, settled-current, settled-here, fed-record, fed-there}
@@ -31,7 +31,7 @@ use Rattle.stays.proofs.Rows.{either-family}
 use Rattle.stays.proofs.Rooms.{fresh-allowed, feed-allowed, satellite-known}
 use Rattle.stays.proofs.Stays.{number-answer}
 use Rattle.history.specs.Line.{Place, Inside, at, succeeds}
-use Rattle.since.specs.Since.{Since, never, ago, later, ownsAge}
+use Rattle.since.specs.Since.{Since, never, ago, later, ownsAge, ofOne}
 use Rattle.since.proofs.Ages.{Timed, SameAges, later-timed, still-timed, blank-timed, aged-timed, fed-timed}
 
 -- ---- a fresh store
@@ -66,7 +66,7 @@ module _ (w t sat band : ℕ) (word room : List ℕ) (s : isStore room ≡ true)
       rw (settled-current w t room F, settled-here w t room F, settled-header w t room F slotsAt (omega arith) (omega arith))
       (chosen-same f sat (slots room) (markedAt w t (rowTaken w t room)) (rowTaken w t room) (λ j g. markedAt-record w t (rowTaken w t room) f j))
 
-  module _ (k : ℕ) (f : Family) (h : k < ages f) (i : ℕ) (g : i < slots room) (since : Since) where
+  module _ (k : ℕ) (f : Family) (h : k < ages f) (i : ℕ) (g : i < slots room) (was : Since) where
     -- the record of the current row before the word, and in the row that is current when it comes
     abbrev before : List ℕ
     before = recordOf f i (rowOf (current room) room)
@@ -75,7 +75,7 @@ module _ (w t sat band : ℕ) (word room : List ℕ) (s : isStore room ≡ true)
     ready = recordOf f i (rowTaken w t room)
 
     abbrev then : Since
-    then = later (goneIf (moves w t room) w t room) since
+    then = later (goneIf (moves w t room) w t room) was
 
     length-before : length before ≡ size f
     length-before = length-record f (slots room) i (rowOf (current room) room) (length-rowOf room F (current room) (F .inRing)) g
@@ -91,27 +91,27 @@ module _ (w t sat band : ℕ) (word room : List ℕ) (s : isStore room ≡ true)
     unfolding risesBy
     rises = rw rule
 
-    ready-timed : Timed k f before since → Timed k f ready then
+    ready-timed : Timed k f before was → Timed k f ready then
     ready-timed timed = rw (rowTaken-record w t room F f i g) (go (moves w t room))
       where
-        go : (b : Bool) → Timed k f (cond b (aged f (risesBy w t room) before) before) (later (goneIf b w t room) since)
-        go true = rw rises (aged-timed k f h before length-before since timed (goneIf true w t room))
-        go false = later-timed k f before since timed
+        go : (b : Bool) → Timed k f (cond b (aged f (risesBy w t room) before) before) (later (goneIf b w t room) was)
+        go true = rw rises (aged-timed k f h before length-before was timed (goneIf true w t room))
+        go false = later-timed k f before was timed
 
     -- in the row that is current then
     abbrev after : List ℕ
     after = recordOf f i (rowOf (rowSettled w t room) (fed w t sat band word room))
 
-    fed-current : Timed k f before since
+    fed-current : Timed k f before was
         → Timed k f after
         (cond (eqb i (chosen f sat (slots room) (rowTaken w t room)) && ownsAge k (owned f (typeOf word) band)) (ago 0)
-        (cond (eqb (satellite after) (satellite before)) then never))
+        (ofOne (satellite after) (satellite before) then))
     fed-current timed = rw (fed-record w t sat band word room F f i g) (go (eqb i (chosen f sat (slots room) (rowTaken w t room))))
       where
         go : (b : Bool)
             → Timed k f (cond b (fedRecord f sat band word ready) ready)
             (cond (b && ownsAge k (owned f (typeOf word) band)) (ago 0)
-            (cond (eqb (satellite (cond b (fedRecord f sat band word ready) ready)) (satellite before)) then never))
+            (ofOne (satellite (cond b (fedRecord f sat band word ready) ready)) (satellite before) then))
         go true =
             rw ready-satellite at
             (fed-timed k f h ready (length-record f (slots room) i (rowTaken w t room) (rowTaken-length w t room F) g) then (ready-timed timed) sat band word one)
@@ -124,14 +124,14 @@ module _ (w t sat band : ℕ) (word room : List ℕ) (s : isStore room ≡ true)
     abbrev pub fedFrom : ℕ → List ℕ
     fedFrom r = recordOf f i (rowOf (cond (moves w t room && eqb r (rowAhead room)) (current room) r) room)
 
-    pub fed-at : (r : ℕ) → Timed k f (fedFrom r) since
+    pub fed-at : (r : ℕ) → Timed k f (fedFrom r) was
         → Timed k f (fedTo r)
         (cond
         (eqb r (current (settled w t room))
         && eqb i (chosen f sat (slots (settled w t room)) (rowOf (current (settled w t room)) (settled w t room)))
         && ownsAge k (owned f (typeOf word) band))
         (ago 0)
-        (cond (eqb (satellite (fedTo r)) (satellite (fedFrom r))) (later (goneIf (moves w t room && eqb r (rowAhead room)) w t room) since) never))
+        (ofOne (satellite (fedTo r)) (satellite (fedFrom r)) (later (goneIf (moves w t room && eqb r (rowAhead room)) w t room) was)))
     fed-at r timed = rw (chosen-settled f, settled-current w t room F) (go (ℕ-discrete r (rowSettled w t room)))
       where
         here : (b : Bool) → r ≡ cond b (rowAhead room) (current room) → b && eqb r (rowAhead room) ≡ b
@@ -149,13 +149,13 @@ module _ (w t sat band : ℕ) (word room : List ℕ) (s : isStore room ≡ true)
         go : Dec (r ≡ rowSettled w t room)
             → Timed k f (fedTo r)
             (cond (eqb r (rowSettled w t room) && eqb i (chosen f sat (slots room) (rowTaken w t room)) && ownsAge k (owned f (typeOf word) band)) (ago 0)
-            (cond (eqb (satellite (fedTo r)) (satellite (fedFrom r))) (later (goneIf (moves w t room && eqb r (rowAhead room)) w t room) since) never))
+            (ofOne (satellite (fedTo r)) (satellite (fedFrom r)) (later (goneIf (moves w t room && eqb r (rowAhead room)) w t room) was)))
         go (yes e) =
             rw (here (moves w t room) e, from (moves w t room) e, eq-eqb r (rowSettled w t room) e, e)
             (fed-current (rw (here (moves w t room) e, from (moves w t room) e) at timed))
         go (no e) =
             rw (there (moves w t room) e, ne-eqb r (rowSettled w t room) e)
-            (still-timed k f (recordOf f i (rowOf r room)) (fedTo r) since
+            (still-timed k f (recordOf f i (rowOf r room)) (fedTo r) was
             (rw (fed-there w t sat band word room F r e) (record { satellites = refl; ages = refl }))
             (rw (there (moves w t room) e) at timed))
 

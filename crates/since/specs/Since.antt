@@ -62,9 +62,9 @@ goneAt (candidateCall sat kind cop w t) room place = 0
 goneAt (askCall f sat) room place = 0
 goneAt resetCall room place = 0
 
--- the satellite at the place after this call is that of its past
-abbrev pub staysWith : Call → List ℕ → Place → Bool
-staysWith call room place = eqb (satellite (at (roomAfter call room) place)) (satellite (at room (past call room place)))
+-- where a record held one satellite and now holds another, no word of this one came
+abbrev pub ofOne : ℕ → ℕ → Since → Since
+ofOne now was s = cond (eqb now was) s never
 
 -- STORE 15.7: how long ago, in time along the line of a place, the word of age k came, after some calls, the latest first; never, if it did
 -- not come since the record's satellite took it, or since the fresh call that began its history
@@ -74,8 +74,8 @@ since k room (call ∷ before) place =
     let then = run room before in
     let was = past call then place in
     let earlier = since k room before was in
-    let kept = cond (staysWith call then place) (later (goneAt call then place) earlier) never in
-    let brought = cond (brings k call then place) (ago 0) kept in
+    let held = ofOne (satellite (at (roomAfter call then) place)) (satellite (at then was)) (later (goneAt call then place) earlier) in
+    let brought = cond (brings k call then place) (ago 0) held in
     cond (begins call then) never brought
 
 -- STORE 15.7: under rule 1 every age is that time
@@ -114,6 +114,6 @@ CopIsTime =
     → (f : Family) (sat cop w t : ℕ)
     → copAllowed cop ≡ true
     → hasCandidate f sat cop w t now ≡ true
-    -- each of its words came, and at most COP - 1 subframes before the candidate's own row
+    -- each of its words came, and at most COP - 1 subframes before the candidate's own row, in time along its line
     → (k : ℕ) → k < ages f
     → Within cop (since k start calls (record { family = f; row = candidateRow w t now; slot = candidateSlot f sat w t now }))
