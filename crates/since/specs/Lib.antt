@@ -1,1 +1,2 @@
 pub mod Since
+pub mod Examples
