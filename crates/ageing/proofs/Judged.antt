@@ -1,7 +1,7 @@
 -- The two questions of the ageing rule, of the current row as it was lent. Assumes nothing.
-use mathlib.Core.Bool.{Bool, true, false, not}
+use mathlib.Core.Bool.{true, false, not}
 use mathlib.Core.List.{List}
-use mathlib.Core.Path.{_≡_, refl, ap}
+use mathlib.Core.Path.{_≡_, refl}
 use Prim.Native.Nat.{ℕ, min}
 use lib.IntN.{ℤ, natAbs}
 use lib.Signed.{nonNeg}

@@ -114,7 +114,8 @@ module _ (f : Family) (sat : ℕ) (room : List ℕ) where
           let unknown = sym (told-unknown true eu) in
           (rw (store, known, shown .0, unknown), rw (store, known, shown .0, unknown))
 
-      pub ask-late : false ≡ (byTime room && eqb (least (agesOf f (part at (size f) room))) oldest) → (t : Answer) → t ≡ timeBefore f (part row headSize room) (part at (size f) room) → eqb (number t) 0 ≡ false
+      pub ask-late : false ≡ (byTime room && eqb (least (agesOf f (part at (size f) room))) oldest)
+          → (t : Answer) → t ≡ timeBefore f (part row headSize room) (part at (size f) room) → eqb (number t) 0 ≡ false
           → (refused 7 ≡ askAnswer f sat room) × (0 ≡ askPlace f sat room)
       unfolding askAnswer askPlace askNumber
       ask-late eu t et k =
@@ -123,7 +124,8 @@ module _ (f : Family) (sat : ℕ) (room : List ℕ) where
           ap (λ (x : Answer). eqb (number x) 0) (sym (et ∙ told-time)) ∙ k in
           (rw (store, known, shown .0, unknown, late), rw (store, known, shown .0, unknown, late))
 
-      pub ask-told : false ≡ (byTime room && eqb (least (agesOf f (part at (size f) room))) oldest) → (n w t : ℕ) → n ≡ be16 room (at + countAt) → done (w ∷ t ∷ []) ≡ timeBefore f (part row headSize room) (part at (size f) room)
+      pub ask-told : false ≡ (byTime room && eqb (least (agesOf f (part at (size f) room))) oldest)
+          → (n w t : ℕ) → n ≡ be16 room (at + countAt) → done (w ∷ t ∷ []) ≡ timeBefore f (part row headSize room) (part at (size f) room)
           → (done (n ∷ w ∷ t ∷ []) ≡ askAnswer f sat room) × (at ≡ askPlace f sat room)
       unfolding askAnswer askPlace askNumber
       ask-told eu n w t en et =

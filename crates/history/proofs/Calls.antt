@@ -22,7 +22,7 @@ use Rattle.paper.specs.Feed.{moves, risesBy, chosen, fed}
 use Rattle.paper.specs.Tag.{familyOf, kindKnown, statusKnown, copAllowed, lengthAllowed, thirtyBefore, candidateRecord, hasCandidate, givenAgrees, matches, tagged, takenBy}
 use Rattle.paper.specs.Reset.{reset}
 use Rattle.paper.specs.Answer.{freshNumber, freshRoom, feedNumber, feedRoom, untilCandidate, tagNumber, tagAnswer, tagRoom, resetNumber, resetRoom}
-use Rattle.paper.specs.Call.{freshCall, feedCall, tagCall, resetCall, answerTo, roomAfter}
+use Rattle.paper.specs.Call.{Call, freshCall, feedCall, tagCall, resetCall, answerTo, roomAfter}
 use Rattle.paper.proofs.Views.{length-rowOf, other, length-record}
 use Rattle.paper.proofs.RecordViews.{withCount-count, aged-satellite, aged-count, aged-data, credited-satellite, credited-data, credited-count, blank-count}
 use Rattle.paper.proofs.WordViews.{rowAhead, rowSettled, rowTaken, rowTaken-length, rowTaken-record, fed-header, fed-record, fed-there}
@@ -32,7 +32,7 @@ use Rattle.stays.proofs.Rows.{either-family}
 use Rattle.paper.proofs.Order.{unless-zero}
 use Rattle.stays.proofs.Rooms.{fresh-allowed, candidate-satellite}
 use Rattle.stays.proofs.Stays.{number-answer}
-use Rattle.history.specs.Line.{Place, Inside, at, succeeds, same}
+use Rattle.history.specs.Line.{Place, Inside, at, succeeds, fills, past, same}
 use Rattle.history.proofs.Records.{Kept, Alike, alike-kept, kept-from, fed-kept}
 
 -- ---- the room after a call: changed where the call succeeds, else as it was
@@ -63,6 +63,14 @@ reset-after room = rw (number-answer (resetNumber room) [])
 -- ---- places
 inside-same : (x y : List ℕ) (place : Place) → depth y ≡ depth x → slots y ≡ slots x → Inside y place → Inside x place
 inside-same x y place d n i = record { row = rw d at (i .row); slot = rw n at (i .slot) }
+
+-- the past of a place inside a store lies inside it
+pub inside-past : (room : List ℕ) → isStore room ≡ true → (call : Call) (place : Place) → Inside room place → Inside room (past call room place)
+inside-past room s call place i = record { row = go (fills call room (place .row)); slot = i .slot }
+  where
+    go : (b : Bool) → cond b (current room) (place .row) < depth room
+    go true = store-facts room s .inRing
+    go false = i .row
 
 -- ---- a fresh store
 pub fresh-none : (d n rule : ℕ) (room : List ℕ) → succeeds (freshCall d n rule) room ≡ true → (place : Place) → Inside (fresh d n rule room) place

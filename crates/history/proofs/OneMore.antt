@@ -3,26 +3,26 @@
 use mathlib.Core.Bool.{Bool, true, false, cond, not, _&&_, _||_}
 use mathlib.Core.List.{List, [], _∷_, _++_}
 use mathlib.Core.Path.{_≡_, refl, sym, _∙_}
-use Prim.Native.Nat.{ℕ, _+_, _<_, _≤_, min}
+use Prim.Native.Nat.{ℕ, _+_, _≤_, min}
 use native.Mathlib.Omega.{arith}
 use lib.Dec.{eqb}
 use borrow.Author.Tests.{not-false}
 use Rattle.paper.specs.Time.{startOf}
 use Rattle.paper.specs.Record.{Family, satellite, count, dataOf, inBits, mostCount, sameFamily}
-use Rattle.paper.specs.Room.{depth, current, rowOf, recordOf}
+use Rattle.paper.specs.Room.{current, rowOf, recordOf}
 use Rattle.paper.specs.Store.{isStore}
 use Rattle.paper.specs.Fresh.{fresh}
 use Rattle.paper.specs.Feed.{moves, fed}
 use Rattle.paper.specs.Tag.{familyOf, candidateRecord, tagged}
 use Rattle.paper.specs.Call.{Call, freshCall, feedCall, tagCall, candidateCall, askCall, resetCall, roomAfter}
 use Rattle.paper.proofs.WordViews.{rowAhead}
-use Rattle.paper.proofs.StoreFacts.{both-true, store-facts}
+use Rattle.paper.proofs.StoreFacts.{both-true}
 use Rattle.history.specs.Line.{Place, Inside, at, succeeds, fills, past, resets, same, broken, begins, Tag, counted, total}
 use Rattle.history.specs.Demand.{EachFor, Earned}
 use Rattle.paper.proofs.Same.{bits-true, true-bits}
 use Rattle.history.proofs.Agree.{same-true, true-same}
 use Rattle.history.proofs.Records.{Kept, alike-kept}
-use Rattle.history.proofs.Calls.{fresh-after, feed-after, tag-after, reset-after, fresh-none, fed-at, fed-inside, Tagged}
+use Rattle.history.proofs.Calls.{inside-past, fresh-after, feed-after, tag-after, reset-after, fresh-none, fed-at, fed-inside, Tagged}
 use Rattle.history.proofs.Calls.{one-family, tagged-at, tagged-inside, Accepted, tag-accepted, reset-succeeds, reset-none, reset-inside}
 
 -- ---- lists of tags
@@ -119,15 +119,8 @@ module _ (room : List ℕ) (s : isStore room ≡ true) (ts : Place → List Tag)
       Earned (place .family) (at (roomAfter call room) place)
       (cond (begins call room || broken call room place) [] (counted call room (past call room place) ++ ts (past call room place)))
 
-  inside-past : (call : Call) (place : Place) → Inside room place → Inside room (past call room place)
-  inside-past call place i = record { row = go (fills call room (place .row)); slot = i .slot }
-    where
-      go : (b : Bool) → cond b (current room) (place .row) < depth room
-      go true = store-facts room s .inRing
-      go false = i .row
-
   earned-past : (call : Call) (place : Place) → Inside room place → Earned (place .family) (at room (past call room place)) (ts (past call room place))
-  earned-past call place i = earned (past call room place) (inside-past call place i)
+  earned-past call place i = earned (past call room place) (inside-past room s call place i)
 
   -- a call that leaves the room as it is
   unchanged : (f : Family) (rec : List ℕ) (before : List Tag) → Earned f rec before → Earned f rec (cond (not (same f rec rec)) [] before)

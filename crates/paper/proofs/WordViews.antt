@@ -378,8 +378,9 @@ module _ (w t : ℕ) (room : List ℕ) (F : InRange room) where
   pub settled-past : (k : ℕ) → roomSize (depth room) (slots room) ≤ k → drop k (settled w t room) ≡ drop k room
   unfolding settled
   settled-past k h =
+      let same = reached-header (risesBy w t room) room F (moves w t room) in
       currentMarked-past w t reached (reached-facts (risesBy w t room) room F (moves w t room)) k
-      (rw (reached-header (risesBy w t room) room F (moves w t room) depthAt (omega arith) (omega arith), reached-header (risesBy w t room) room F (moves w t room) slotsAt (omega arith) (omega arith)) h)
+      (rw (same depthAt (omega arith) (omega arith), same slotsAt (omega arith) (omega arith)) h)
       ∙ reached-past (risesBy w t room) room F (moves w t room) k h
 
 -- ---- a word in a row

@@ -7,7 +7,8 @@ use lib.Dec.{leb, ltb, eqb}
 use Rattle.paper.specs.Big.{put16, put32}
 use Rattle.paper.specs.Parts.{part, onPart}
 use Rattle.paper.specs.Record.{Family, CED, Timing, size, satellite, agesOf, aged, greatest}
-use Rattle.paper.specs.Room.{currentAt, markAt, weekAt, timeAt, headSize, slotSize, rowSize, depth, slots, current, byTime, rowAt, rowOf, week, time, marked, isAt, recordAt, recordOf, eachRecord}
+use Rattle.paper.specs.Room.{currentAt, markAt, weekAt, timeAt, headSize, slotSize, rowSize, depth, slots, current, byTime}
+use Rattle.paper.specs.Room.{rowAt, rowOf, week, time, marked, isAt, recordAt, recordOf, eachRecord}
 use Rattle.paper.specs.Time.{isEarlier, goneBy}
 use Rattle.paper.specs.Word.{fedRecord}
 

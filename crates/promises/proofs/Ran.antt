@@ -1,6 +1,6 @@
 -- Demand 3 of the code that runs: any outcomes that the contracts of the calls permit, parts of an input among them, one after the other
 -- from a fresh call that was answered 0 on, each lent the room from its first byte as far as the caller likes, leave the room that the
--- history gives, and so every record in it was earned. Assumes nothing.
+-- history gives, and so every record in it was earned, and under rule 1 every COP holds of it. Assumes nothing.
 use borrow.Fn.Kinds.{resT, endedOf, Dens}
 use denote.Triple.Clauses.{AtExit}
 use contract.Lifetimes.{Lfts}
@@ -26,6 +26,8 @@ use Rattle.history.specs.Line.{Place, Inside, at, tags}
 use Rattle.history.specs.Demand.{Earned}
 use Rattle.history.proofs.Demand.{demand-3}
 use Rattle.history.proofs.Steps.{candidate-step, ask-step}
+use Rattle.since.specs.Since.{CopHolds}
+use Rattle.since.proofs.Time.{cop-is-time}
 use Rattle.promises.proofs.Joined.{fresh-is-step, feed-is-step, tag-is-step, reset-authbits-is-step}
 use Rattle.promises.proofs.Exports.{exported-fresh-is-step, exported-feed-is-step, exported-tag-is-step, exported-reset-authbits-is-step}
 use Rattle.intake.specs.Input.{itemsOf, roomOf, callsFrom}
@@ -304,3 +306,13 @@ demand-3-of-the-code start began calls now ran place inside =
     let of-start : Inside (run start whole) place → Earned (place .family) (at (run start whole) place) (tags start whole place) =
     subst (λ z. Inside (run z whole) place → Earned (place .family) (at (run z whole) place) (tags z whole place)) (sym (s .made)) at-run in
     subst (λ x. Inside x place → Earned (place .family) (at x place) (tags start whole place)) (sym (ran-is-run start calls now ran)) of-start inside
+
+-- under rule 1 a COP holds of calls that ran
+pub cop-is-time-of-the-code : (start : List ℕ) → Began start → (calls : List Made) (now : List ℕ) → Ran start calls now
+    → CopHolds start (history start calls) now
+cop-is-time-of-the-code start began calls now ran =
+    let s = began-starts start began in
+    let whole : List Call = history start calls in
+    let of-start : CopHolds start whole (run start whole) =
+    subst (λ z. CopHolds z whole (run z whole)) (sym (s .made)) (cop-is-time (s .room) (s .d) (s .n) (s .rule) (s .ok) whole) in
+    subst (λ x. CopHolds start whole x) (sym (ran-is-run start calls now ran)) of-start

@@ -8,7 +8,7 @@ use native.Mathlib.Omega.{arith}
 use lib.Dec.{eqb}
 use Rattle.paper.specs.Time.{startOf}
 use Rattle.paper.specs.Record.{Family, ages, satellite}
-use Rattle.paper.specs.Room.{depth, slots, current, rowOf, recordOf, rule, byTime, ruleAt, timeRule}
+use Rattle.paper.specs.Room.{slots, current, rowOf, recordOf, rule, byTime, ruleAt, timeRule}
 use Rattle.paper.specs.Word.{owned, typeOf}
 use Rattle.paper.specs.Store.{isStore}
 use Rattle.paper.specs.Fresh.{fresh}
@@ -20,7 +20,7 @@ use Rattle.paper.proofs.WordViews.{rowAhead, fed-header}
 use Rattle.paper.proofs.CallViews.{tagged-header, reset-header}
 use Rattle.paper.proofs.StoreFacts.{store-facts}
 use Rattle.history.specs.Line.{Place, Inside, at, succeeds, fills, past, begins}
-use Rattle.history.proofs.Calls.{fresh-after, feed-after, tag-after, reset-after, fed-inside, tagged-inside, reset-succeeds, reset-inside}
+use Rattle.history.proofs.Calls.{inside-past, fresh-after, feed-after, tag-after, reset-after, fed-inside, tagged-inside, reset-succeeds, reset-inside}
 use Rattle.since.specs.Since.{Since, never, ago, later, ownsAge, brings, goneAt, ofOne}
 use Rattle.since.proofs.Ages.{Timed, still-timed}
 use Rattle.since.proofs.Calls.{fresh-timed, feed-known, goneIf, fed-at, tagged-same, reset-same}
@@ -40,16 +40,9 @@ module _ (room : List ℕ) (s : isStore room ≡ true) (k : ℕ) (times : Place 
       (cond (brings k call room place) (ago 0)
       (ofOne (satellite (at (roomAfter call room) place)) (satellite (at room (past call room place))) (later (goneAt call room place) (times (past call room place))))))
 
-  inside-past : (call : Call) (place : Place) → Inside room place → Inside room (past call room place)
-  inside-past call place i = record { row = go (fills call room (place .row)); slot = i .slot }
-    where
-      go : (b : Bool) → cond b (current room) (place .row) < depth room
-      go true = store-facts room s .inRing
-      go false = i .row
-
   timed-past : (call : Call) (place : Place) → byTime room ≡ true → Inside room place → k < ages (place .family)
       → Timed k (place .family) (at room (past call room place)) (times (past call room place))
-  timed-past call place ruled i h = all-timed ruled (past call room place) (inside-past call place i) h
+  timed-past call place ruled i h = all-timed ruled (past call room place) (inside-past room s call place i) h
 
   -- a call that leaves the room as it is
   unchanged : (f : Family) (rec : List ℕ) (before : Since) → Timed k f rec before

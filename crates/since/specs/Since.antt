@@ -100,15 +100,9 @@ abbrev pub Within : ℕ → Since → Type 0
 Within c never = ⊥
 Within c (ago n) = n < c
 
--- STORE 15.7: what COP promises under rule 1
-abbrev pub CopIsTime : Type 0
-CopIsTime =
-    -- after a successful fresh, and after any calls, under rule 1
-    (room : List ℕ) (d n rule : ℕ)
-    → number (answerTo (freshCall d n rule) room) ≡ 0
-    → (calls : List Call)
-    → let start = roomAfter (freshCall d n rule) room in
-    let now = run start calls in
+-- STORE 15.7: what a COP promises of a room that some calls left, under rule 1
+abbrev pub CopHolds : List ℕ → List Call → List ℕ → Type 0
+CopHolds start calls now =
     byTime now ≡ true
     -- where there is a candidate for a COP
     → (f : Family) (sat cop w t : ℕ)
@@ -117,3 +111,12 @@ CopIsTime =
     -- each of its words came, and at most COP - 1 subframes before the candidate's own row, in time along its line
     → (k : ℕ) → k < ages f
     → Within cop (since k start calls (record { family = f; row = candidateRow w t now; slot = candidateSlot f sat w t now }))
+
+abbrev pub CopIsTime : Type 0
+CopIsTime =
+    -- after a successful fresh, and after any calls
+    (room : List ℕ) (d n rule : ℕ)
+    → number (answerTo (freshCall d n rule) room) ≡ 0
+    → (calls : List Call)
+    → let start = roomAfter (freshCall d n rule) room in
+    CopHolds start calls (run start calls)

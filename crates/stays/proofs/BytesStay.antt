@@ -12,7 +12,8 @@ use Rattle.paper.specs.Bits.{moved, changed}
 use Rattle.paper.specs.Parts.{part, onPart, Bytes}
 use Rattle.paper.specs.Record.{Family, CED, Timing, dataBytes, ages, size, dataAt, satellite, count, dataOf}
 use Rattle.paper.specs.Record.{withCount, older, aged, blankRecord, mostCount, agesAt, countAt, neverThere, satelliteAt, oldest}
-use Rattle.paper.specs.Room.{slotSize, base, rowSize, depth, slots, current, rowAt, recordAt, inSlot, eachRecord, everyRecord, headSize, headerSize, currentAt, zerosAt, timeRule, markAt, depthAt, weekAt, timeAt}
+use Rattle.paper.specs.Room.{slotSize, base, rowSize, depth, slots, current, rowAt, recordAt, inSlot, eachRecord, everyRecord, headSize, headerSize}
+use Rattle.paper.specs.Room.{currentAt, zerosAt, timeRule, markAt, depthAt, weekAt, timeAt}
 use Rattle.paper.specs.Word.{Owned, nothing, owns, owned, typeOf, taken, written, fedRecord}
 use Rattle.paper.specs.Fresh.{header, blankSlot, blankRow, fresh}
 use Rattle.paper.specs.Feed.{nextRow, moves, risesBy, copied, agedRow, advanced, markedAt, currentMarked, settled, chosen, fedFamily, fedRow, fed, fedCurrent}

@@ -1,6 +1,5 @@
 -- `after` asks `gst` of the two subframes.
 use borrow.Author.Needs.{needs}
-use mathlib.Core.Path.{_∙_}
 use Rattle.ageing.proofs.after.Statement.{statement}
 use Rattle.ageing.proofs.after.Tie as tie
 

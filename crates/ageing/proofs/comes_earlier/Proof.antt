@@ -1,14 +1,14 @@
 -- The rule decides first, then the mark of the current row, and then the sign of the difference.
 use borrow.Author.Needs.{needs}
 use borrow.Author.Tests.{not-true, not-false}
-use mathlib.Core.Bool.{true, not}
+use mathlib.Core.Bool.{not}
 use mathlib.Core.Path.{_≡_, sym, ap, _∙_}
-use lib.IntN.{ℤ, pos}
+use lib.IntN.{ℤ}
 use lib.Signed.{nonNeg}
 use mir.Facts.{toZ-ofZ}
 use mir.Syntax.{w32}
-use Rattle.paper.specs.Time.{startOf, subframesOf, difference}
-use Rattle.paper.specs.Room.{rowOf, week, time}
+use Rattle.paper.specs.Time.{startOf, subframesOf}
+use Rattle.paper.specs.Room.{rowOf}
 use Rattle.paper.specs.Feed.{comesEarlier}
 use Rattle.gst.specs.Answer.{apartAnswer}
 use Rattle.gst.specs.declared.Apart.{Apart}
