@@ -3,7 +3,7 @@ use native.Mathlib.Omega.{arith}
 use mathlib.Core.Path.{_≡_, refl, ap}
 use Prim.Native.Nat.{ℕ}
 use Rattle.paper.specs.Number.{number}
-use Rattle.refusals.proofs.Answers.{same-refusal, above-zero, at-most}
+use Rattle.refusals.proofs.Answers.{same-refusal, above-zero, never-theirs}
 use Rattle.message.specs.declared.Heading.{Heading}
 use Rattle.message.specs.declared.Built.{Built}
 use Rattle.message.specs.declared.Built.the-variants.{Message as built, Refused as not-built}
@@ -43,6 +43,6 @@ read-one (not-read v) (not-read w) e = ap not-read (same-refusal v w (ap number 
 read-one (read g) PaddingSet e = absurd (omega (arith, ap number e))
 read-one (read g) (not-read w) e = absurd (omega (arith, ap number e, above-zero w))
 read-one PaddingSet (read h) e = absurd (omega (arith, ap number e))
-read-one PaddingSet (not-read w) e = absurd (omega (arith, ap number e, at-most w))
+read-one PaddingSet (not-read w) e = absurd (omega (arith, ap number e, never-theirs w .2))
 read-one (not-read v) (read h) e = absurd (omega (arith, ap number e, above-zero v))
-read-one (not-read v) PaddingSet e = absurd (omega (arith, ap number e, at-most v))
+read-one (not-read v) PaddingSet e = absurd (omega (arith, ap number e, never-theirs v .2))

@@ -4,7 +4,7 @@ use native.Mathlib.Omega.{arith}
 use mathlib.Core.Path.{_≡_, refl, sym, ap, _∙_}
 use Prim.Native.Nat.{ℕ}
 use Rattle.paper.specs.Number.{number}
-use Rattle.refusals.proofs.Answers.{same-refusal, above-zero, never-orbits}
+use Rattle.refusals.proofs.Answers.{same-refusal, above-zero, never-theirs}
 use Rattle.gst.specs.declared.Gst.{Gst}
 use Rattle.orbit.specs.declared.Orbit.{Orbit}
 use Rattle.orbit.specs.declared.TimingNumbers.{TimingNumbers}
@@ -38,13 +38,13 @@ placed-one (At x n g) placed-22 e p = absurd (omega (arith, ap number e))
 placed-one (At x n g) (placed-refused w) e p = absurd (omega (arith, ap number e, above-zero w))
 placed-one placed-21 (At y m h) e p = absurd (omega (arith, ap number e))
 placed-one placed-21 placed-22 e p = absurd (omega (arith, ap number e))
-placed-one placed-21 (placed-refused w) e p = absurd (omega (arith, ap number e, never-orbits w .0))
+placed-one placed-21 (placed-refused w) e p = absurd (omega (arith, ap number e, never-theirs w .0))
 placed-one placed-22 (At y m h) e p = absurd (omega (arith, ap number e))
 placed-one placed-22 placed-21 e p = absurd (omega (arith, ap number e))
-placed-one placed-22 (placed-refused w) e p = absurd (omega (arith, ap number e, never-orbits w .1))
+placed-one placed-22 (placed-refused w) e p = absurd (omega (arith, ap number e, never-theirs w .1))
 placed-one (placed-refused v) (At y m h) e p = absurd (omega (arith, ap number e, above-zero v))
-placed-one (placed-refused v) placed-21 e p = absurd (omega (arith, ap number e, never-orbits v .0))
-placed-one (placed-refused v) placed-22 e p = absurd (omega (arith, ap number e, never-orbits v .1))
+placed-one (placed-refused v) placed-21 e p = absurd (omega (arith, ap number e, never-theirs v .0))
+placed-one (placed-refused v) placed-22 e p = absurd (omega (arith, ap number e, never-theirs v .1))
 
 pub orbit-one : (r r' : GotOrbit) → gotAnswer r ≡ gotAnswer r' → gotOrbit r ≡ gotOrbit r' → r ≡ r'
 orbit-one (Found n g o) (Found m h q) e p =
@@ -60,13 +60,13 @@ orbit-one (Found n g o) OtherSatellite e p = absurd (omega (arith, ap number e))
 orbit-one (Found n g o) (Refused w) e p = absurd (omega (arith, ap number e, above-zero w))
 orbit-one IssuesDiffer (Found m h q) e p = absurd (omega (arith, ap number e))
 orbit-one IssuesDiffer OtherSatellite e p = absurd (omega (arith, ap number e))
-orbit-one IssuesDiffer (Refused w) e p = absurd (omega (arith, ap number e, never-orbits w .0))
+orbit-one IssuesDiffer (Refused w) e p = absurd (omega (arith, ap number e, never-theirs w .0))
 orbit-one OtherSatellite (Found m h q) e p = absurd (omega (arith, ap number e))
 orbit-one OtherSatellite IssuesDiffer e p = absurd (omega (arith, ap number e))
-orbit-one OtherSatellite (Refused w) e p = absurd (omega (arith, ap number e, never-orbits w .1))
+orbit-one OtherSatellite (Refused w) e p = absurd (omega (arith, ap number e, never-theirs w .1))
 orbit-one (Refused v) (Found m h q) e p = absurd (omega (arith, ap number e, above-zero v))
-orbit-one (Refused v) IssuesDiffer e p = absurd (omega (arith, ap number e, never-orbits v .0))
-orbit-one (Refused v) OtherSatellite e p = absurd (omega (arith, ap number e, never-orbits v .1))
+orbit-one (Refused v) IssuesDiffer e p = absurd (omega (arith, ap number e, never-theirs v .0))
+orbit-one (Refused v) OtherSatellite e p = absurd (omega (arith, ap number e, never-theirs v .1))
 
 pub timing-one : (r r' : GotTiming) → gotTimingAnswer r ≡ gotTimingAnswer r' → gotTiming r ≡ gotTiming r' → r ≡ r'
 timing-one (timing-found n g o) (timing-found m h q) e p =

@@ -269,7 +269,7 @@ fn names(bytes: &[u8], sat: u8) -> bool
     fields::whole(bytes, WORD4_AT + Word4::IODNAV, Word4::SVID) == numbers::as_u32(sat)
 }
 
-// Where the data may be read: 3, 4, 12, 7, and for CED 21, 22.
+// Where the data may be read: 3, 4, 12, 24, 7, and for CED 21, 22.
 pub fn place(room: &[u8], timing: bool, svn: Svn) -> Placed
     ensures { λ r. ⌜ (placedAnswer r ≡ numbersAnswer (familyIf timing) (svn .0) (now (room .entry)))
         × (placePlaced r ≡ numbersPlace (familyIf timing) (svn .0) (now (room .entry))) ⌝ }

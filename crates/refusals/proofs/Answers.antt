@@ -80,25 +80,25 @@ above-zero VerdictNo = omega arith
 above-zero StatusAddsNothing = omega arith
 above-zero AgeUnknown = omega arith
 
--- and none has one of the two numbers that reading an orbit has of its own
-pub never-orbits : (why : Refusal) → (numberOf why ≢ 21) × (numberOf why ≢ 22)
-never-orbits Sizes = (omega arith, omega arith)
-never-orbits TooShort = (omega arith, omega arith)
-never-orbits NotAStore = (omega arith, omega arith)
-never-orbits NoSatellite = (omega arith, omega arith)
-never-orbits NoTime = (omega arith, omega arith)
-never-orbits NotAStart = (omega arith, omega arith)
-never-orbits OutOfTime = (omega arith, omega arith)
-never-orbits NotAllowed = (omega arith, omega arith)
-never-orbits Unknown = (omega arith, omega arith)
-never-orbits NoCandidate = (omega arith, omega arith)
-never-orbits OtherData = (omega arith, omega arith)
-never-orbits NotEnough = (omega arith, omega arith)
-never-orbits Earlier = (omega arith, omega arith)
-never-orbits Dummy = (omega arith, omega arith)
-never-orbits VerdictNo = (omega arith, omega arith)
-never-orbits StatusAddsNothing = (omega arith, omega arith)
-never-orbits AgeUnknown = (omega arith, omega arith)
+-- and none has a number that reading an orbit, 21 and 22, or reading a message, 26, has of its own
+pub never-theirs : (why : Refusal) → (numberOf why ≢ 21) × (numberOf why ≢ 22) × (numberOf why ≢ 26)
+never-theirs Sizes = (omega arith, omega arith, omega arith)
+never-theirs TooShort = (omega arith, omega arith, omega arith)
+never-theirs NotAStore = (omega arith, omega arith, omega arith)
+never-theirs NoSatellite = (omega arith, omega arith, omega arith)
+never-theirs NoTime = (omega arith, omega arith, omega arith)
+never-theirs NotAStart = (omega arith, omega arith, omega arith)
+never-theirs OutOfTime = (omega arith, omega arith, omega arith)
+never-theirs NotAllowed = (omega arith, omega arith, omega arith)
+never-theirs Unknown = (omega arith, omega arith, omega arith)
+never-theirs NoCandidate = (omega arith, omega arith, omega arith)
+never-theirs OtherData = (omega arith, omega arith, omega arith)
+never-theirs NotEnough = (omega arith, omega arith, omega arith)
+never-theirs Earlier = (omega arith, omega arith, omega arith)
+never-theirs Dummy = (omega arith, omega arith, omega arith)
+never-theirs VerdictNo = (omega arith, omega arith, omega arith)
+never-theirs StatusAddsNothing = (omega arith, omega arith, omega arith)
+never-theirs AgeUnknown = (omega arith, omega arith, omega arith)
 
 -- two replies with one answer are one
 pub same-reply : (a b : Reply) → replyAnswer a ≡ replyAnswer b → a ≡ b
