@@ -152,10 +152,10 @@ fn age_unknown(room: &[u8], at: usize, timing: bool) -> bool
         ≡ (byTime (now (room .entry))
         && eqb (least (agesOf (familyIf timing) (part at (size (familyIf timing)) (now (room .entry))))) oldest) ⌝ }
 {
-    if !rows::by_time(room) {
-        return false;
+    if rows::by_time(room) {
+        return least_age(room, at, timing) == OLDEST;
     }
-    least_age(room, at, timing) == OLDEST
+    false
 }
 
 fn subframes_back(age: u8) -> i32
