@@ -12,7 +12,7 @@ use Rattle.paper.specs.Parts.{part}
 use Rattle.paper.specs.Big.{be16}
 use Rattle.paper.specs.Record.{Family, countAt, size, count, agesOf, oldest, least}
 use Rattle.paper.specs.Room.{headSize, rowSize, depth, slots, current, byTime, rowAt}
-use Rattle.paper.specs.Ask.{stepsBack, answeringRow, answeringRecord, someEnough, ageUnknown, timeBefore}
+use Rattle.paper.specs.Ask.{stepsBack, rowAnswering, slotAnswering, answeringRow, answeringRecord, someEnough, ageUnknown, timeBefore}
 use Rattle.paper.proofs.Big.{be16-part}
 use Rattle.paper.proofs.First.{first-holds}
 use Rattle.paper.proofs.Views.{row-inside}
@@ -20,7 +20,7 @@ use Rattle.paper.proofs.Views.{back-below}
 use Rattle.lookup.specs.Candidate.{placeOf}
 use Rattle.lookup.proofs.Places.{place-inside, place-record}
 use Rattle.ask.specs.declared.Answering.the-variants.{At, Nothing}
-use Rattle.ask.specs.Backward.{pick, placeBack, rowAnswering, slotAnswering, answeringAt}
+use Rattle.ask.specs.Backward.{pick, placeBack, answeringAt}
 use Rattle.ask.specs.Answered.{askPlace}
 use Rattle.paper.specs.Answer.{askNumber, askAnswer}
 use Rattle.paper.specs.Satellite.{isSatellite}

@@ -12,7 +12,7 @@ use Rattle.paper.specs.Record.{Family, dataBytes, dataAt, size}
 use Rattle.paper.specs.Room.{depth, slots, current}
 use Rattle.paper.specs.Satellite.{isSatellite}
 use Rattle.paper.specs.Store.{InRange, isStore}
-use Rattle.paper.specs.Ask.{stepsBack, answeringRow, answeringRecord, someEnough}
+use Rattle.paper.specs.Ask.{stepsBack, rowAnswering, slotAnswering, answeringRow, answeringRecord, someEnough}
 use Rattle.paper.specs.Answer.{askNumber, askAnswer, askData}
 use Rattle.paper.proofs.Order.{unless-zero}
 use Rattle.paper.proofs.StoreFacts.{store-facts}
@@ -20,7 +20,6 @@ use Rattle.paper.proofs.Views.{back-below}
 use Rattle.lookup.specs.Candidate.{placeOf}
 use Rattle.lookup.proofs.Places.{place-inside, place-data}
 use Rattle.refusals.proofs.Answers.{done-number, refused-part}
-use Rattle.ask.specs.Backward.{rowAnswering, slotAnswering}
 use Rattle.ask.specs.Answered.{askPlace}
 use Rattle.ask.proofs.Enough.{answering-slot}
 

@@ -5,12 +5,12 @@ use mathlib.Core.List.{List, [], _∷_}
 use lib.Dec.{eqb}
 use Rattle.paper.specs.Number.{Answer, done, refused}
 use Rattle.paper.specs.Record.{Family}
+use Rattle.paper.specs.Ask.{rowAnswering, slotAnswering}
 use Rattle.paper.specs.Answer.{askNumber}
 use Rattle.lookup.specs.Candidate.{placeOf}
 use Rattle.refusals.specs.Reply.{numberOf}
 use Rattle.ask.specs.declared.Answered.{Answered}
 use Rattle.ask.specs.declared.Answered.the-variants.{Record, Refused}
-use Rattle.ask.specs.Backward.{rowAnswering, slotAnswering}
 
 -- STORE 12.3: the count, and the time less 30 s for each of the least age
 abbrev pub answeredAnswer : Answered → Answer

@@ -5,7 +5,7 @@ use mathlib.Core.List.{List}
 use lib.Dec.{ltb}
 use Rattle.paper.specs.Record.{Family}
 use Rattle.paper.specs.Room.{depth, slots, current, rowAt, rowOf}
-use Rattle.paper.specs.Ask.{enoughSlot, rowBack, stepsBack, someEnough}
+use Rattle.paper.specs.Ask.{enoughSlot, rowBack, rowAnswering, slotAnswering, someEnough}
 use Rattle.lookup.specs.Candidate.{placeOf}
 use Rattle.ask.specs.declared.Answering.{Answering}
 use Rattle.ask.specs.declared.Answering.the-variants.{At, Nothing}
@@ -20,13 +20,6 @@ placeBack f sat j room =
     let r = rowBack (depth room) (current room) j in
     let i = enoughSlot f sat (slots room) (rowOf r room) in
     pick (ltb i (slots room)) (At (rowAt (slots room) r) (placeOf f r i room)) Nothing
-
--- the number of the row that answers, and of its slot
-abbrev pub rowAnswering : Family → ℕ → List ℕ → ℕ
-rowAnswering f sat room = rowBack (depth room) (current room) (stepsBack f sat room)
-
-abbrev pub slotAnswering : Family → ℕ → List ℕ → ℕ
-slotAnswering f sat room = enoughSlot f sat (slots room) (rowOf (rowAnswering f sat room) room)
 
 unfoldable pub answeringAt : Family → ℕ → List ℕ → Answering
 answeringAt f sat room =

@@ -11,7 +11,7 @@ use Rattle.paper.specs.Record.{count, mostCount, Timing, countAt}
 use Rattle.paper.specs.Word.{table as words}
 use Rattle.paper.specs.Call.{Call, tagCall, roomAfter, run}
 use Rattle.paper.proofs.Opens.{callsOpen}
-use Rattle.history.specs.Line.{at, Tag, fills, resets, same, broken, begins, counted, tags, total}
+use Rattle.history.specs.Line.{at, Tag, fills, resets, same, broken, begins, counted, tags, tagsAlong, total}
 use Rattle.earned.specs.Examples.{fresh, word, two, clock, timing, many}
 use Rattle.paper.specs.Room.{rowAt, recordAt}
 
@@ -31,11 +31,11 @@ one : (x : ℕ)
     × (broken theCall (withTags x) (timing 0 0) ≡ false)
     × (counted theCall (withTags x) (timing 0 0) ≡ theTag ∷ [])
     × (count (at (withTags x) (timing 0 0)) ≡ x)
-unfolding withTags fresh word two clock fills resets same broken begins counted tags total callsOpen
+unfolding withTags fresh word two clock fills resets same broken begins counted tagsAlong total callsOpen
 one x = (rw (div-add-mod' x 256), refl, refl, div-add-mod' x 256)
 
 none : (run (fresh 1 1) (two 1) ≡ withTags 0) × (total (tags (fresh 1 1) (two 1) (timing 0 0)) ≡ 0)
-unfolding withTags fresh word two clock fills resets same broken begins counted tags total callsOpen
+unfolding withTags fresh word two clock fills resets same broken begins counted tagsAlong total callsOpen
 none = (refl, refl)
 
 -- ---- k tags
@@ -47,7 +47,7 @@ room-after (suc k) =
     ap (roomAfter theCall) (room-after k) ∙ one (min mostCount (40 * k)) .0 ∙ ap withTags e
 
 line-after : (k : ℕ) → total (tags (fresh 1 1) (many k) (timing 0 0)) ≡ 40 * k
-unfolding tags total many begins fills
+unfolding tagsAlong total many begins fills
 line-after zero = none .1
 line-after (suc k) =
     rw (room-after k, one (min mostCount (40 * k)) .1, one (min mostCount (40 * k)) .2) (omega (arith, line-after k))

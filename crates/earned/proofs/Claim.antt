@@ -9,7 +9,7 @@ use Rattle.paper.specs.Record.{count}
 use Rattle.paper.specs.Call.{run}
 use Rattle.paper.proofs.Opens.{callsOpen}
 use Rattle.paper.proofs.StoreFacts.{both-true}
-use Rattle.history.specs.Line.{at, fills, resets, same, broken, begins, counted, tags, total}
+use Rattle.history.specs.Line.{at, fills, resets, same, broken, begins, counted, tags, tagsAlong, total}
 use Rattle.earned.specs.Examples.{Row, Every, every, fresh, word, two, five, clock, newClock, orbit, newOrbit, forty, sums, copies}
 use Rattle.earned.specs.Examples.{sevens, breaks, apart, tagFirst, changeFirst, nextTag, question, table, printed, begun, tagsBefore, tagsAfter, oneRow, sixDone, page}
 
@@ -29,7 +29,7 @@ unfolding every table fresh word two five clock newClock orbit newOrbit forty su
 rowsOpen = tt
 
 unfoldable pub lineOpen : Unit {0}
-unfolding fills resets same broken begins counted tags total
+unfolding fills resets same broken begins counted tagsAlong total
 lineOpen = tt
 
 computed : every table ≡ true

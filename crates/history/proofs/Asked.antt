@@ -12,7 +12,7 @@ use Rattle.paper.specs.Satellite.{isSatellite}
 use Rattle.paper.specs.Record.{Family, satellite, count, dataOf}
 use Rattle.paper.specs.Room.{depth, slots, current, rowOf, recordOf}
 use Rattle.paper.specs.Store.{isStore}
-use Rattle.paper.specs.Ask.{leastCount, hasEnough, enoughSlot, rowBack, stepsBack, answeringRow, answeringRecord, someEnough, timeBefore}
+use Rattle.paper.specs.Ask.{leastCount, hasEnough, enoughSlot, rowBack, stepsBack, rowAnswering, slotAnswering, answeringRow, answeringRecord, someEnough, timeBefore}
 use Rattle.paper.specs.Answer.{askNumber, askAnswer, askData}
 use Rattle.paper.specs.Call.{askCall, answerTo, partTo}
 use Rattle.paper.proofs.First.{first-holds}
@@ -20,16 +20,11 @@ use Rattle.paper.proofs.StoreFacts.{both-true, store-facts}
 use Rattle.paper.proofs.Order.{unless-zero}
 use Rattle.stays.proofs.Stays.{number-answer}
 use Rattle.history.specs.Line.{Place, Inside, at}
+use Rattle.history.specs.Demand.{answeringPlace}
 
 module _ (f : Family) (sat : ℕ) (room : List ℕ) (e : number (answerTo (askCall f sat) room) ≡ 0) where
-  -- the place of the record that answers
-  abbrev pub answering : Place
-  answering =
-      record {
-        family = f;
-        row = rowBack (depth room) (current room) (stepsBack f sat room);
-        slot = enoughSlot f sat (slots room) (answeringRow f sat room);
-      }
+  abbrev answering : Place
+  answering = answeringPlace f sat room
 
   number-zero : askNumber f sat room ≡ 0
   unfolding answerTo askAnswer
@@ -47,15 +42,15 @@ module _ (f : Family) (sat : ℕ) (room : List ℕ) (e : number (answerTo (askCa
   unfolding someEnough
   steps-in = ltb-true (stepsBack f sat room) (depth room) (allowed .1)
 
-  slot-in : enoughSlot f sat (slots room) (answeringRow f sat room) < slots room
-  unfolding stepsBack answeringRow
+  slot-in : slotAnswering f sat room < slots room
+  unfolding stepsBack
   slot-in =
-      ltb-true (enoughSlot f sat (slots room) (answeringRow f sat room)) (slots room)
+      ltb-true (slotAnswering f sat room) (slots room)
       (first-holds
       (λ (j : ℕ). ltb (enoughSlot f sat (slots room) (rowOf (rowBack (depth room) (current room) j) room)) (slots room))
       (depth room) steps-in)
 
-  row-in : rowBack (depth room) (current room) (stepsBack f sat room) < depth room
+  row-in : rowAnswering f sat room < depth room
   unfolding rowBack
   row-in = go (leb (stepsBack f sat room) (current room)) refl
     where

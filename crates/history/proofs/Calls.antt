@@ -21,7 +21,7 @@ use Rattle.paper.specs.Fresh.{fresh}
 use Rattle.paper.specs.Feed.{moves, risesBy, chosen, fed}
 use Rattle.paper.specs.Tag.{familyOf, kindKnown, statusKnown, copAllowed, lengthAllowed, thirtyBefore, candidateRecord, hasCandidate, givenAgrees, matches, tagged, takenBy}
 use Rattle.paper.specs.Reset.{reset}
-use Rattle.paper.specs.Answer.{freshNumber, freshRoom, feedNumber, feedRoom, untilCandidate, tagNumber, tagAnswer, tagRoom, resetNumber, resetRoom}
+use Rattle.paper.specs.Answer.{freshNumber, freshRoom, feedNumber, feedRoom, untilCandidate, fromCandidate, tagNumber, tagAnswer, tagRoom, resetNumber, resetRoom}
 use Rattle.paper.specs.Call.{Call, freshCall, feedCall, tagCall, resetCall, answerTo, roomAfter}
 use Rattle.paper.proofs.Views.{length-rowOf, other, length-record}
 use Rattle.paper.proofs.RecordViews.{withCount-count, aged-satellite, aged-count, aged-data, credited-satellite, credited-data, credited-count, blank-count}
@@ -211,13 +211,23 @@ pub record Accepted (f : Family) (sat : ℕ) (given : List ℕ) (verdict : Bool)
   pub whole : length given ≡ dataBytes f
   pub yes : verdict ≡ true
 
+-- and what it had passed before: its COP, and a candidate for it in the row of the subframe before
+pub record Passed (f : Family) (sat cop w t : ℕ) (room : List ℕ) : Type 0 where
+  pub allowed : copAllowed cop ≡ true
+  pub before : number (thirtyBefore w t) ≡ 0
+  pub found : hasCandidate f sat cop w t room ≡ true
+
 module _ (sat kind cop l status w t : ℕ) (given : List ℕ) (verdict : Bool) (room : List ℕ) where
-  number-accepted : tagNumber sat kind cop l status w t given verdict room ≡ 0
-      → Accepted (familyOf kind) sat given verdict (candidateRecord (familyOf kind) sat w t room)
-  unfolding tagNumber untilCandidate givenAgrees
-  number-accepted e =
-      let f : Family = familyOf kind in
-      let candidate : List ℕ = candidateRecord f sat w t room in
+  abbrev f : Family
+  f = familyOf kind
+
+  abbrev candidate : List ℕ
+  candidate = candidateRecord f sat w t room
+
+  number-passed : tagNumber sat kind cop l status w t given verdict room ≡ 0
+      → Passed f sat cop w t room × (fromCandidate f given candidate verdict status ≡ 0)
+  unfolding tagNumber untilCandidate
+  number-passed e =
       let n1 = unless-zero (isStore room) 3 _ (omega arith) e in
       let n2 = unless-zero (isSatellite sat) 4 _ (omega arith) (n1 .1) in
       let n3 = unless-zero (isTime t) 5 _ (omega arith) (n2 .1) in
@@ -227,23 +237,31 @@ module _ (sat kind cop l status w t : ℕ) (given : List ℕ) (verdict : Bool) (
       let n7 = unless-zero (eqb (number (thirtyBefore w t)) 0) 7 _ (omega arith) (n6 .1) in
       let n8 = unless-zero (not (eqb cop 0)) 16 _ (omega arith) (n7 .1) in
       let n9 = unless-zero (hasCandidate f sat cop w t room) 10 _ (omega arith) (n8 .1) in
-      let n10 = unless-zero (givenAgrees f given candidate) 11 _ (omega arith) (n9 .1) in
+      (record { allowed = both-true (copAllowed cop) (lengthAllowed l) (n5 .0) .0; before = eqb-true _ 0 (n7 .0); found = n9 .0 }, n9 .1)
+
+  number-accepted : tagNumber sat kind cop l status w t given verdict room ≡ 0 → Accepted f sat given verdict candidate
+  unfolding givenAgrees
+  number-accepted e =
+      let p = number-passed e in
+      let n10 = unless-zero (givenAgrees f given candidate) 11 _ (omega arith) (p .1) in
       let n11 = unless-zero verdict 17 _ (omega arith) (n10 .1) in
       let agree = both-true (eqb (length given) (dataBytes f)) (sameBits f given (dataOf f candidate)) (n10 .0) in
       record {
-        satellites = candidate-satellite f sat cop w t room (n9 .0);
+        satellites = candidate-satellite f sat cop w t room (p .0 .found);
         bits = agree .1;
         whole = eqb-true (length given) (dataBytes f) (agree .0);
         yes = n11 .0;
       }
 
-  pub tag-accepted : succeeds (tagCall sat kind cop l status w t given verdict) room ≡ true
-      → Accepted (familyOf kind) sat given verdict (candidateRecord (familyOf kind) sat w t room)
+  answered-0 : succeeds (tagCall sat kind cop l status w t given verdict) room ≡ true → tagNumber sat kind cop l status w t given verdict room ≡ 0
   unfolding answerTo tagAnswer
-  tag-accepted e =
-      number-accepted
-      (sym (number-answer (tagNumber sat kind cop l status w t given verdict room) (takenBy (familyOf kind) (candidateRecord (familyOf kind) sat w t room) room ∷ []))
-      ∙ eqb-true _ 0 e)
+  answered-0 e = sym (number-answer (tagNumber sat kind cop l status w t given verdict room) (takenBy f candidate room ∷ [])) ∙ eqb-true _ 0 e
+
+  pub tag-passed : succeeds (tagCall sat kind cop l status w t given verdict) room ≡ true → Passed f sat cop w t room
+  tag-passed e = number-passed (answered-0 e) .0
+
+  pub tag-accepted : succeeds (tagCall sat kind cop l status w t given verdict) room ≡ true → Accepted f sat given verdict candidate
+  tag-accepted e = number-accepted (answered-0 e)
 
 -- ---- a reset
 module _ (room : List ℕ) (s : isStore room ≡ true) where

@@ -7,7 +7,7 @@ use mathlib.Core.Path.{_≡_}
 use lib.ListN.{length, getD}
 use Rattle.paper.specs.Number.{number, values}
 use Rattle.paper.specs.Record.{Family, dataBytes, satellite, count, dataOf, sameBits, mostCount}
-use Rattle.paper.specs.Ask.{leastCount}
+use Rattle.paper.specs.Ask.{leastCount, rowAnswering, slotAnswering}
 use Rattle.paper.specs.Call.{Call, freshCall, askCall, answerTo, partTo, roomAfter, run}
 use Rattle.history.specs.Line.{Place, Inside, at, Tag, tags, total}
 
@@ -55,15 +55,21 @@ Never3 =
     → (calls : List Call) (call : Call)
     → number (answerTo call (run (roomAfter (freshCall d n rule) room) calls)) ≢ 3
 
--- what stands behind a count and data that asking hands out
-pub record Behind (start : List ℕ) (calls : List Call) (f : Family) (sat counted : ℕ) (bytes : List ℕ) : Type 0 where
-  -- the place of the record that answers
-  pub place : Place
-  -- the count: earned by the tags on its line, of at least 40 bits
-  pub counts : counted ≡ min mostCount (total (tags start calls place))
-  pub enough : leastCount ≤ total (tags start calls place)
-  -- the data: each of those tags was accepted for the satellite asked for and for exactly these bits
-  pub each : EachFor f sat bytes (tags start calls place)
+-- STORE 12.1: the place of the record that answers
+abbrev pub answeringPlace : Family → ℕ → List ℕ → Place
+answeringPlace f sat room = record { family = f; row = rowAnswering f sat room; slot = slotAnswering f sat room }
+
+-- what stands behind a count and data that were handed out for a satellite: the record at a place, and the tags on its line
+pub record Behind (now : List ℕ) (place : Place) (tags : List Tag) (sat counted : ℕ) (bytes : List ℕ) : Type 0 where
+  -- the place is inside D and N, and its record is the satellite's
+  pub inside : Inside now place
+  pub asked : satellite (at now place) ≡ sat
+  -- count and data are that record's
+  pub counts : counted ≡ count (at now place)
+  pub holds : bytes ≡ dataOf (place .family) (at now place)
+  -- and those tags earned them, with at least 40 bits
+  pub enough : leastCount ≤ total tags
+  pub earned : Earned (place .family) (at now place) tags
 
 abbrev pub AskEarned : Type 0
 AskEarned =
@@ -75,5 +81,6 @@ AskEarned =
     let now = run start calls in
     -- where asking for a satellite is answered 0
     number (answerTo (askCall f sat) now) ≡ 0
-    -- the count and the data handed out were earned
-    → Behind start calls f sat (getD (values (answerTo (askCall f sat) now)) 0 0) (partTo (askCall f sat) now)
+    -- the count and the data handed out are those of the record that answers, and were earned
+    → let place = answeringPlace f sat now in
+    Behind now place (tags start calls place) sat (getD (values (answerTo (askCall f sat) now)) 0 0) (partTo (askCall f sat) now)

@@ -102,15 +102,19 @@ counted (candidateCall sat kind cop w t) room place = []
 counted (askCall f sat) room place = []
 counted resetCall room place = []
 
--- STORE 15.6: the tags that count on the line of a place after some calls, the latest first, since its last
--- break or since the fresh call that began its history
-unfoldable pub tags : List ℕ → List Call → Place → List Tag
-tags room [] place = []
-tags room (call ∷ before) place =
+-- STORE 15.6: the tags that count on the line of a place after some calls, the latest first, since its last break or since a fresh call
+-- that began its history; behind them those that counted on each line before the calls
+unfoldable pub tagsAlong : (Place → List Tag) → List ℕ → List Call → Place → List Tag
+tagsAlong sofar room [] place = sofar place
+tagsAlong sofar room (call ∷ before) place =
     let then = run room before in
     let was = past call then place in
-    let earlier = counted call then was ++ tags room before was in
+    let earlier = counted call then was ++ tagsAlong sofar room before was in
     cond (begins call then || broken call then place) [] earlier
+
+-- after the calls that follow a fresh one: on a fresh store no tag counts
+abbrev pub tags : List ℕ → List Call → Place → List Tag
+tags room calls place = tagsAlong (λ _. []) room calls place
 
 -- the sum of the lengths
 unfoldable pub total : List Tag → ℕ

@@ -5,7 +5,6 @@ pub mod Parts
 pub mod Taken
 pub mod State
 pub mod Calls
-pub mod Whole
 pub mod Determined
 pub mod Asks
 pub mod Examples

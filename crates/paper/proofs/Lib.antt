@@ -4,6 +4,7 @@ pub mod First
 pub mod Bytes
 pub mod Big
 pub mod Digits
+pub mod Seconds
 pub mod Bits
 pub mod Views
 pub mod Lengths

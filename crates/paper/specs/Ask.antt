@@ -32,15 +32,20 @@ stepsBack f sat room =
     (λ (j : ℕ). ltb (enoughSlot f sat (slots room) (rowOf (rowBack (depth room) (current room) j) room)) (slots room))
     (depth room)
 
+-- STORE 12.1: where the record that answers stands: the number of its row, and its slot there
+abbrev pub rowAnswering : Family → ℕ → List ℕ → ℕ
+rowAnswering f sat room = rowBack (depth room) (current room) (stepsBack f sat room)
+
+abbrev pub slotAnswering : Family → ℕ → List ℕ → ℕ
+slotAnswering f sat room = enoughSlot f sat (slots room) (rowOf (rowAnswering f sat room) room)
+
 -- the row that answers
 unfoldable pub answeringRow : Family → ℕ → List ℕ → List ℕ
-answeringRow f sat room = rowOf (rowBack (depth room) (current room) (stepsBack f sat room)) room
+answeringRow f sat room = rowOf (rowAnswering f sat room) room
 
 -- the record that answers
 unfoldable pub answeringRecord : Family → ℕ → List ℕ → List ℕ
-answeringRecord f sat room =
-    let row = answeringRow f sat room in
-    recordOf f (enoughSlot f sat (slots room) row) row
+answeringRecord f sat room = recordOf f (slotAnswering f sat room) (answeringRow f sat room)
 
 -- STORE 12.1: where no record has enough it is 12; the test that one has
 unfoldable pub someEnough : Family → ℕ → List ℕ → Bool

@@ -1,164 +1,100 @@
--- The exports for C are the same calls: the number, the values and the part that an export hands back, and the room that it leaves,
--- are those that the history takes for the call. Assumes nothing.
-use borrow.Fn.Kinds.{resT, endedOf, Dens}
-use denote.Triple.Clauses.{AtExit}
-use contract.Lifetimes.{Lfts}
+-- The exports for C are the same calls: the number, the values and the slice that an export hands back, and the room that it leaves, are
+-- those that the history takes for the call. Assumes nothing.
 use mathlib.Core.Bool.{false}
+use mathlib.Core.List.{List}
 use mathlib.Core.Path.{_≡_, sym, ap, _∙_}
 use Prim.Native.Nat.{ℕ}
 use lib.ListN.{length}
 use Rattle.paper.specs.Number.{Answer, number}
 use Rattle.paper.specs.Parts.{part}
-use Rattle.paper.specs.Record.{CED, Timing}
-use Rattle.paper.specs.Answer.{askData}
-use Rattle.paper.specs.Call.{freshCall, feedCall, tagCall, candidateCall, askCall, resetCall, answerTo, partTo, roomAfter}
+use Rattle.paper.specs.Record.{Family, CED, Timing}
+use Rattle.paper.specs.Answer.{askAnswer, askData}
+use Rattle.paper.specs.Call.{resetCall, askCall, answerTo, partTo, roomAfter}
 use Rattle.history.proofs.Steps.{fresh-step, feed-step, tag-step, candidate-step, ask-step, reset-step}
 use Rattle.ffi.specs.declared.Told.{Told}
 use Rattle.ffi.specs.Handed.{takenOf, toldOf}
 use Rattle.ffi.specs.Offset.{askOffset}
-use Rattle.ffi.proofs.dawnstook_fresh.Reads as fresh
-use Rattle.ffi.proofs.dawnstook_fresh.Kinds as fresh-kinds
-use Rattle.ffi.proofs.dawnstook_feed.Reads as feed
-use Rattle.ffi.proofs.dawnstook_feed.Kinds as feed-kinds
-use Rattle.ffi.proofs.dawnstook_tag.Reads as tag
-use Rattle.ffi.proofs.dawnstook_tag.Kinds as tag-kinds
-use Rattle.ffi.proofs.dawnstook_candidate.Reads as candidate
-use Rattle.ffi.proofs.dawnstook_candidate.Kinds as candidate-kinds
-use Rattle.ffi.proofs.dawnstook_get_ced_and_status.Reads as get-ced
-use Rattle.ffi.proofs.dawnstook_get_ced_and_status.Kinds as get-ced-kinds
-use Rattle.ffi.proofs.dawnstook_get_timing_parameters.Reads as get-timing
-use Rattle.ffi.proofs.dawnstook_get_timing_parameters.Kinds as get-timing-kinds
-use Rattle.ffi.proofs.dawnstook_reset_authbits.Reads as reset
-use Rattle.ffi.proofs.dawnstook_reset_authbits.Kinds as reset-kinds
-use Rattle.intake.proofs.part.Reads as read-part
-use Rattle.intake.proofs.end.Reads as read-end
-use Rattle.ffi_intake.proofs.dawnstook_part.Reads as c-part
-use Rattle.ffi_intake.proofs.dawnstook_part.Kinds as c-part-kinds
-use Rattle.ffi_intake.proofs.dawnstook_end.Reads as c-end
-use Rattle.ffi_intake.proofs.dawnstook_end.Kinds as c-end-kinds
+use Rattle.promises.specs.Outcomes.{PartRan, EndRan, CFreshRan, CFeedRan, CTagRan, CCandidateRan, CGetCedRan, CGetTimingRan, CResetRan, CPartRan, CEndRan}
+use Rattle.promises.specs.Outcomes.{cFreshBy, cFeedBy, cTagBy, cCandidateBy, cGetCedBy, cGetTimingBy}
 
-pub exported-fresh-is-step :
-    (κs : Lfts 1)
-    (a : Dens κs fresh-kinds.ps)
-    (r : resT fresh-kinds.r κs .Denot)
-    (e : AtExit (endedOf 1 fresh-kinds.ps fresh-kinds.r) κs)
-    → fresh.Post κs a r e
-    → let room = a .0 .now in
-    let call = freshCall (a .1 .0) (a .1 .1 .0) (a .1 .1 .1 .0) in
-    (r ≡ number (answerTo call room)) × (e .0 .now ≡ roomAfter call room)
-exported-fresh-is-step κs a r e p =
-    let s = fresh-step _ _ _ (a .0 .now) in
-    (p .0 ∙ ap number (sym (s .0)), p .1 ∙ sym (s .1))
+pub exported-fresh-is-step : (o : CFreshRan)
+    → (o .answer ≡ number (answerTo (cFreshBy o) (o .arguments .0 .now))) × (o .exit .0 .now ≡ roomAfter (cFreshBy o) (o .arguments .0 .now))
+exported-fresh-is-step o =
+    let s = fresh-step _ _ _ (o .arguments .0 .now) in
+    (o .permitted .0 ∙ ap number (sym (s .0)), o .permitted .1 ∙ sym (s .1))
 
-pub exported-feed-is-step :
-    (κs : Lfts 2)
-    (a : Dens κs feed-kinds.ps)
-    (r : resT feed-kinds.r κs .Denot)
-    (e : AtExit (endedOf 2 feed-kinds.ps feed-kinds.r) κs)
-    → feed.Post κs a r e
-    → let room = a .0 .now in
-    let call = feedCall (a .1 .0 .now) (a .1 .1 .0) (a .1 .1 .1 .0) (a .1 .1 .1 .1 .0) (a .1 .1 .1 .1 .1 .0) in
-    (r ≡ number (answerTo call room)) × (e .0 .now ≡ roomAfter call room)
-exported-feed-is-step κs a r e p =
-    let s = feed-step _ _ _ _ _ (a .0 .now) in
-    (p .0 ∙ ap number (sym (s .0)), p .1 ∙ sym (s .1))
+pub exported-feed-is-step : (o : CFeedRan)
+    → (o .answer ≡ number (answerTo (cFeedBy o) (o .arguments .0 .now))) × (o .exit .0 .now ≡ roomAfter (cFeedBy o) (o .arguments .0 .now))
+exported-feed-is-step o =
+    let s = feed-step _ _ _ _ _ (o .arguments .0 .now) in
+    (o .permitted .0 ∙ ap number (sym (s .0)), o .permitted .1 ∙ sym (s .1))
 
-pub exported-tag-is-step :
-    (κs : Lfts 2)
-    (a : Dens κs tag-kinds.ps)
-    (r : resT tag-kinds.r κs .Denot)
-    (e : AtExit (endedOf 2 tag-kinds.ps tag-kinds.r) κs)
-    → tag.Post κs a r e
-    → let room = a .0 .now in
-    let sat = a .1 .0 in
-    let kind = a .1 .1 .0 in
-    let cop = a .1 .1 .1 .0 in
-    let bits = a .1 .1 .1 .1 .0 in
-    let status = a .1 .1 .1 .1 .1 .0 in
-    let week = a .1 .1 .1 .1 .1 .1 .0 in
-    let time = a .1 .1 .1 .1 .1 .1 .1 .0 in
-    let given = a .1 .1 .1 .1 .1 .1 .1 .1 .0 .now in
-    let verdict = a .1 .1 .1 .1 .1 .1 .1 .1 .1 .0 in
-    let call = tagCall sat kind cop bits status week time given verdict in
-    (r ≡ takenOf (answerTo call room)) × (e .0 .now ≡ roomAfter call room)
-exported-tag-is-step κs a r e p =
-    let s = tag-step _ _ _ _ _ _ _ _ _ (a .0 .now) in
-    (p .0 ∙ ap takenOf (sym (s .0)), p .1 ∙ sym (s .1))
+pub exported-tag-is-step : (o : CTagRan)
+    → (o .answer ≡ takenOf (answerTo (cTagBy o) (o .arguments .0 .now))) × (o .exit .0 .now ≡ roomAfter (cTagBy o) (o .arguments .0 .now))
+exported-tag-is-step o =
+    let s = tag-step _ _ _ _ _ _ _ _ _ (o .arguments .0 .now) in
+    (o .permitted .0 ∙ ap takenOf (sym (s .0)), o .permitted .1 ∙ sym (s .1))
+
+pub exported-reset-authbits-is-step : (o : CResetRan)
+    → (o .answer ≡ number (answerTo resetCall (o .arguments .0 .now))) × (o .exit .0 .now ≡ roomAfter resetCall (o .arguments .0 .now))
+exported-reset-authbits-is-step o =
+    let s = reset-step (o .arguments .0 .now) in
+    (o .permitted .0 ∙ ap number (sym (s .0)), o .permitted .1 ∙ sym (s .1))
 
 -- showing the candidate and asking are lent the room to read only
-pub exported-candidate-is-step :
-    (κs : Lfts 1)
-    (a : Dens κs candidate-kinds.ps)
-    (r : resT candidate-kinds.r κs .Denot)
-    (e : AtExit (endedOf 1 candidate-kinds.ps candidate-kinds.r) κs)
-    → candidate.Post κs a r e
-    → let room = a .0 .now in
-    let call = candidateCall (a .1 .0) (a .1 .1 .0) (a .1 .1 .1 .0) (a .1 .1 .1 .1 .0) (a .1 .1 .1 .1 .1 .0) in
-    (r .number ≡ number (answerTo call room)) × (part (r .offset) (r .bytes) room ≡ partTo call room)
-exported-candidate-is-step κs a r e p =
-    let s = candidate-step _ _ _ _ _ (a .0 .now) in
-    (ap (λ x. x .number) (p .0) ∙ ap number (sym (s .0)), p .1 ∙ sym (s .1))
+pub exported-candidate-is-step : (o : CCandidateRan)
+    → (o .answer .number ≡ number (answerTo (cCandidateBy o) (o .arguments .0 .now)))
+    × (part (o .answer .offset) (o .answer .bytes) (o .arguments .0 .now) ≡ partTo (cCandidateBy o) (o .arguments .0 .now))
+exported-candidate-is-step o =
+    let s = candidate-step _ _ _ _ _ (o .arguments .0 .now) in
+    (ap (λ x. x .number) (o .permitted .0) ∙ ap number (sym (s .0)), o .permitted .1 ∙ sym (s .1))
 
-pub exported-get-ced-and-status-is-step :
-    (κs : Lfts 1)
-    (a : Dens κs get-ced-kinds.ps)
-    (r : resT get-ced-kinds.r κs .Denot)
-    (e : AtExit (endedOf 1 get-ced-kinds.ps get-ced-kinds.r) κs)
-    → get-ced.Post κs a r e
-    → let room = a .0 .now in
-    let call = askCall CED (a .1 .0) in
-    (r ≡ toldOf (answerTo call room) (r .offset) (r .bytes)) × (part (r .offset) (r .bytes) room ≡ partTo call room)
-exported-get-ced-and-status-is-step κs a r e p =
-    let s = ask-step CED (a .1 .0) (a .0 .now) in
-    let start : ℕ = askOffset CED (a .1 .0) (a .0 .now) in
-    let long : ℕ = length (askData CED (a .1 .0) (a .0 .now)) in
-    let said = ap (λ (x : Told). toldOf (answerTo (askCall CED (a .1 .0)) (a .0 .now)) (x .offset) (x .bytes)) (sym (p .0)) in
-    (p .0 ∙ ap (λ (x : Answer). toldOf x start long) (sym (s .0)) ∙ said, p .1 ∙ sym (s .1))
+-- of either family
+asked-as : (f : Family) (sat : ℕ) (room : List ℕ) (r : Told) → r ≡ toldOf (askAnswer f sat room) (askOffset f sat room) (length (askData f sat room))
+    → r ≡ toldOf (answerTo (askCall f sat) room) (r .offset) (r .bytes)
+asked-as f sat room r p =
+    p
+    ∙ ap (λ (x : Answer). toldOf x (askOffset f sat room) (length (askData f sat room))) (sym (ask-step f sat room .0))
+    ∙ ap (λ (x : Told). toldOf (answerTo (askCall f sat) room) (x .offset) (x .bytes)) (sym p)
 
-pub exported-get-timing-parameters-is-step :
-    (κs : Lfts 1)
-    (a : Dens κs get-timing-kinds.ps)
-    (r : resT get-timing-kinds.r κs .Denot)
-    (e : AtExit (endedOf 1 get-timing-kinds.ps get-timing-kinds.r) κs)
-    → get-timing.Post κs a r e
-    → let room = a .0 .now in
-    let call = askCall Timing (a .1 .0) in
-    (r ≡ toldOf (answerTo call room) (r .offset) (r .bytes)) × (part (r .offset) (r .bytes) room ≡ partTo call room)
-exported-get-timing-parameters-is-step κs a r e p =
-    let s = ask-step Timing (a .1 .0) (a .0 .now) in
-    let start : ℕ = askOffset Timing (a .1 .0) (a .0 .now) in
-    let long : ℕ = length (askData Timing (a .1 .0) (a .0 .now)) in
-    let said = ap (λ (x : Told). toldOf (answerTo (askCall Timing (a .1 .0)) (a .0 .now)) (x .offset) (x .bytes)) (sym (p .0)) in
-    (p .0 ∙ ap (λ (x : Answer). toldOf x start long) (sym (s .0)) ∙ said, p .1 ∙ sym (s .1))
+pub exported-get-ced-and-status-is-step : (o : CGetCedRan)
+    → (o .answer ≡ toldOf (answerTo (cGetCedBy o) (o .arguments .0 .now)) (o .answer .offset) (o .answer .bytes))
+    × (part (o .answer .offset) (o .answer .bytes) (o .arguments .0 .now) ≡ partTo (cGetCedBy o) (o .arguments .0 .now))
+exported-get-ced-and-status-is-step o = (
+  asked-as CED (o .arguments .1 .0) (o .arguments .0 .now) (o .answer) (o .permitted .0),
+  o .permitted .1 ∙ sym (ask-step CED _ (o .arguments .0 .now) .1),
+)
 
-pub exported-reset-authbits-is-step :
-    (κs : Lfts 1)
-    (a : Dens κs reset-kinds.ps)
-    (r : resT reset-kinds.r κs .Denot)
-    (e : AtExit (endedOf 1 reset-kinds.ps reset-kinds.r) κs)
-    → reset.Post κs a r e
-    → let room = a .0 .now in
-    (r ≡ number (answerTo resetCall room)) × (e .0 .now ≡ roomAfter resetCall room)
-exported-reset-authbits-is-step κs a r e p =
-    let s = reset-step (a .0 .now) in
-    (p .0 ∙ ap number (sym (s .0)), p .1 ∙ sym (s .1))
+pub exported-get-timing-parameters-is-step : (o : CGetTimingRan)
+    → (o .answer ≡ toldOf (answerTo (cGetTimingBy o) (o .arguments .0 .now)) (o .answer .offset) (o .answer .bytes))
+    × (part (o .answer .offset) (o .answer .bytes) (o .arguments .0 .now) ≡ partTo (cGetTimingBy o) (o .arguments .0 .now))
+exported-get-timing-parameters-is-step o = (
+  asked-as Timing (o .arguments .1 .0) (o .arguments .0 .now) (o .answer) (o .permitted .0),
+  o .permitted .1 ∙ sym (ask-step Timing _ (o .arguments .0 .now) .1),
+)
 
 -- a part and the end of an input: what the exports permit, `part` and `end` permit without the lines of `trace`, so that what is proved of
 -- an input that those read in parts holds of one that these read
-pub exported-part-is-part :
-    (κs : Lfts 4)
-    (a : Dens κs c-part-kinds.ps)
-    (r : resT c-part-kinds.r κs .Denot)
-    (e : AtExit (endedOf 4 c-part-kinds.ps c-part-kinds.r) κs)
-    → c-part.Post κs a r e
-    → read-part.Post κs (a .0, (a .1 .0, (a .1 .1 .0, (a .1 .1 .1 .0, (false, a .1 .1 .1 .1))))) r (e .0, (e .1 .0, (e .1 .1 .0, (e .1 .1 .1 .0, (false, e .1 .1 .1 .1)))))
-exported-part-is-part κs a r e p = p
+pub exported-part : CPartRan → PartRan
+exported-part o =
+    let (reader, (room, (bytes, (out, none)))) = o .arguments in
+    let (reader', (room', (bytes', (out', none')))) = o .exit in
+    record {
+      lifetimes = o .lifetimes;
+      arguments = (reader, (room, (bytes, (out, (false, none)))));
+      answer = o .answer;
+      exit = (reader', (room', (bytes', (out', (false, none')))));
+      permitted = o .permitted;
+    }
 
-pub exported-end-is-end :
-    (κs : Lfts 3)
-    (a : Dens κs c-end-kinds.ps)
-    (r : resT c-end-kinds.r κs .Denot)
-    (e : AtExit (endedOf 3 c-end-kinds.ps c-end-kinds.r) κs)
-    → c-end.Post κs a r e
-    → read-end.Post κs (a .0, (a .1 .0, (a .1 .1 .0, (false, a .1 .1 .1)))) r (e .0, (e .1 .0, (e .1 .1 .0, (false, e .1 .1 .1))))
-exported-end-is-end κs a r e p = p
+pub exported-end : CEndRan → EndRan
+exported-end o =
+    let (reader, (room, (out, none))) = o .arguments in
+    let (reader', (room', (out', none'))) = o .exit in
+    record {
+      lifetimes = o .lifetimes;
+      arguments = (reader, (room, (out, (false, none))));
+      answer = o .answer;
+      exit = (reader', (room', (out', (false, none'))));
+      permitted = o .permitted;
+    }

@@ -2,6 +2,6 @@ pub mod Answers
 pub mod Tight
 pub mod Joined
 pub mod Exports
-pub mod Input
+pub mod Whole
 pub mod Ran
-pub mod Numbers
+pub mod Asked

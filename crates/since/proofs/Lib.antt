@@ -1,5 +1,7 @@
-pub mod Ages
-pub mod Calls
-pub mod OneMore
-pub mod Time
+pub mod Shares
+pub mod Changes
+pub mod Word
+pub mod Along
+pub mod Brought
+pub mod Asked
 pub mod Computed

@@ -1,2 +1,2 @@
-pub mod Since
+pub mod Brought
 pub mod Examples

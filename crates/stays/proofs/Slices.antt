@@ -29,7 +29,7 @@ use Rattle.paper.proofs.StoreFacts.{both-true, store-facts}
 use Rattle.paper.specs.Satellite.{isSatellite}
 use Rattle.paper.specs.Word.{wordBytes}
 use Rattle.paper.specs.Time.{isTime, isStart, startOf}
-use Rattle.paper.specs.Ask.{stepsBack, someEnough, ageUnknown, enoughSlot, rowBack, answeringRow, answeringRecord, timeBefore}
+use Rattle.paper.specs.Ask.{stepsBack, someEnough, ageUnknown, enoughSlot, rowBack, rowAnswering, answeringRow, answeringRecord, timeBefore}
 use Rattle.paper.proofs.Order.{unless-zero}
 use Rattle.paper.specs.Reset.{reset}
 use Rattle.paper.specs.Parts.{onPart, part, onParts}
@@ -167,8 +167,10 @@ module _ (k : ℕ) (room : List ℕ) (g : k ≤ length room) (h : roomSize (dept
           (same-row (rowBack (depth room) (current room) (stepsBack f sat room)) below)
 
       same-answering-record : answeringRecord f sat (take k room) ≡ answeringRecord f sat room
-      unfolding answeringRecord
-      same-answering-record = rw (same-answering-row, same-header slotsAt (omega arith))
+      unfolding answeringRecord answeringRow
+      same-answering-record =
+          let row : rowOf (rowAnswering f sat (take k room)) (take k room) ≡ rowOf (rowAnswering f sat room) room = same-answering-row in
+          rw (row, same-header slotsAt (omega arith))
 
   -- "Asking 3, 4, 12, 24, 7"
   module _ (f : Family) (sat : ℕ) where

@@ -1,0 +1,4 @@
+pub mod Outcomes
+pub mod Covered
+pub mod Inputs
+pub mod Statements
