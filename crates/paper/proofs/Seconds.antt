@@ -3,7 +3,7 @@
 use native.Mathlib.Omega.{arith}
 use mathlib.Core.Bool.{Bool, true, false, not, cond, _&&_}
 use mathlib.Core.List.{[], _∷_}
-use mathlib.Core.Path.{_≡_, refl}
+use mathlib.Core.Path.{_≡_, refl, sym, subst}
 use Prim.Native.Nat.{ℕ, zero, suc, _+_, _-_, _*_, _/_, _%_, _<_}
 use lib.Dec.{ltb, leb}
 use lib.ListN.{getD}
@@ -12,7 +12,7 @@ use lib.Signed.{leZ, nonNeg, quotZ}
 use borrow.Author.Tests.{ltb-true, ltb-false, lt-ltb}
 use Rattle.paper.specs.Number.{Answer, number, values, done, refused}
 use Rattle.paper.specs.Time.{weekSeconds, weekSubframes, subframeSeconds, lastWeek, mostSubframes, isTime, secondsOf, timeAt, sumOf, addSubframes}
-use Rattle.paper.specs.Time.{difference, isEarlier, goneBy}
+use Rattle.paper.specs.Time.{difference, subframesOf, isEarlier, goneBy}
 
 -- ---- whole numbers as differences of natural ones
 -- z is a less b
@@ -123,13 +123,15 @@ module _ (w t w' t' : ℕ) (start : t % subframeSeconds ≡ 0) (start' : t' % su
       (weeks-less (pos w -ℤ pos w') w w' (minus-less w w'))
       (thirtieth-less (pos t -ℤ pos t') (t / subframeSeconds) (t' / subframeSeconds) seconds)
 
+  difference-is : t < weekSeconds → t' < weekSeconds → subframesOf (difference w t w' t') ≡ apart
+  unfolding difference
+  difference-is h h' = rw (lt-ltb t weekSeconds h, lt-ltb t' weekSeconds h')
+
   not-below : (z : ℤ) → Less z here there → not (nonNeg z) ≡ false → secondsOf w t ≡ secondsOf w' t' + natAbs z * subframeSeconds
   not-below (pos k) h e = omega arith
   not-below (negsuc k) h e = absurd (let x : _≡_ {A = ℕ} 0 1 = cc in omega arith)
 
   pub gone-seconds : t < weekSeconds → t' < weekSeconds → isEarlier w t w' t' ≡ false
       → secondsOf w t ≡ secondsOf w' t' + goneBy w t w' t' * subframeSeconds
-  unfolding isEarlier goneBy difference
-  gone-seconds h h' e =
-      rw (lt-ltb t weekSeconds h, lt-ltb t' weekSeconds h')
-      (not-below apart apart-less (rw (lt-ltb t weekSeconds h, lt-ltb t' weekSeconds h') at e))
+  unfolding isEarlier goneBy
+  gone-seconds h h' e = not-below (subframesOf (difference w t w' t')) (subst (λ (z : ℤ). Less z here there) (sym (difference-is h h')) apart-less) e

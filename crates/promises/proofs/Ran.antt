@@ -14,7 +14,7 @@ use Rattle.stays.proofs.Slices.{lent-room}
 use Rattle.history.specs.Line.{Place, Inside, at, tags}
 use Rattle.history.specs.Demand.{Earned}
 use Rattle.history.proofs.Demand.{demand-3}
-use Rattle.since.specs.Brought.{Origin, AfterFresh, brought}
+use Rattle.since.specs.Brought.{Origin, brought, BitsHold, AgesHold, AfterFresh}
 use Rattle.since.proofs.Brought.{bits-hold, ages-hold, cop-holds, tag-holds}
 use Rattle.since.proofs.Asked.{time-holds}
 use Rattle.intake.specs.Input.{recordsOf}
@@ -104,10 +104,10 @@ words-of-the-code Statement holds now (sinceFresh start before d n rule later le
     (sym (since-fresh start now before d n rule later left)) (holds (run start before) d n rule made later)
 
 pub bits-of-the-code : BitsOfTheCode
-bits-of-the-code = words-of-the-code _ bits-hold
+bits-of-the-code = words-of-the-code BitsHold bits-hold
 
 pub ages-of-the-code : AgesOfTheCode
-ages-of-the-code = words-of-the-code _ ages-hold
+ages-of-the-code = words-of-the-code AgesHold ages-hold
 
 pub cop-of-the-code : CopOfTheCode
 cop-of-the-code now covered = cop-holds now (wordsOf covered) (bits-of-the-code now covered) (ages-of-the-code now covered)

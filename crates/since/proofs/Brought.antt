@@ -124,7 +124,7 @@ share-bit : (f : Family) (k i : ℕ) (o : Owned) (bytes w : List ℕ) → IsShar
 share-bit f k i nothing bytes w p y st a b = absurd (false≢true y)
 share-bit f k i (owns to from n age) bytes w p y st a b =
     let mine : age ≡ k = eqb-true age k y in
-    let begins : to ≡ shareAt f k = p .0 ∙ ap (shareAt f) mine in
+    let starts : to ≡ shareAt f k = p .0 ∙ ap (shareAt f) mine in
     let ends : to + n ≡ shareAt f (suc k) = p .1 ∙ ap (λ (j : ℕ). shareAt f (suc j)) mine in
     let there : to + (i - to) ≡ i = omega arith in
     record { at = from + (i - to); is = ap (bitAt bytes) (sym there) ∙ st (i - to) (omega arith) }
