@@ -19,8 +19,8 @@ use Rattle.since.proofs.Brought.{bits-hold, ages-hold, cop-holds, tag-holds}
 use Rattle.since.proofs.Asked.{time-holds}
 use Rattle.intake.specs.Input.{recordsOf}
 use Rattle.intake.proofs.Calls.{room-of-calls}
-use Rattle.promises.specs.Outcomes.{Did, freshDid, feedDid, tagDid, resetDid, partDid, cFreshDid, cFeedDid, cTagDid, cResetDid, cPartDid, deedsOf}
-use Rattle.promises.specs.Covered.{Made, Ran, wholes, history, Left, byRuns, byInput, Covered, sinceFresh, wordsOf}
+use Rattle.promises.specs.Outcomes.{Did, freshDid, feedDid, tagDid, resetDid, partDid, cFreshDid, cFeedDid, cTagDid, cResetDid, cPartDid, Deeds, deedsOf}
+use Rattle.promises.specs.Covered.{Made, Lent, Ran, wholes, history, Left, byRuns, byInput, Covered, sinceFresh, wordsOf}
 use Rattle.promises.specs.Statements.{Demand3OfTheCode, Never3OfTheCode, BitsOfTheCode, AgesOfTheCode, CopOfTheCode, TagOfTheCode, TimeOfTheCode}
 use Rattle.promises.proofs.Joined.{fresh-is-step, feed-is-step, tag-is-step, reset-authbits-is-step}
 use Rattle.promises.proofs.Exports.{exported-fresh-is-step, exported-feed-is-step, exported-tag-is-step, exported-reset-authbits-is-step}
@@ -57,6 +57,13 @@ wholes-run k room h (call ∷ before) =
     ∙ ap (λ (x : List ℕ). roomAfter call (take k whole) ++ x) (sym past)
     ∙ lent-room k whole fits call
 
+lent-is-run : (k : ℕ) (before after : List ℕ) (deeds : Deeds) → deeds .left ≡ run (deeds .lent) (deeds .calls) → Lent k before after deeds
+    → after ≡ run before (wholes k before (deeds .calls))
+lent-is-run k before after deeds e L =
+    L .whole
+    ∙ ap (λ (x : List ℕ). x ++ drop k before) (e ∙ ap (λ (x : List ℕ). run x (deeds .calls)) (L .first))
+    ∙ wholes-run k before (L .inside) (deeds .calls)
+
 -- ---- one after the other
 pub ran-is-run : (start : List ℕ) (made : List Made) (now : List ℕ) → Ran start made now → now ≡ run start (history start made)
 unfolding run
@@ -64,10 +71,7 @@ ran-is-run start [] now ran = ran
 ran-is-run start (m ∷ before) now ran =
     let k : ℕ = m .bytes in
     let calls : List Call = deedsOf (m .did) .calls in
-    let L = ran .lent in
-    L .whole
-    ∙ ap (λ (x : List ℕ). x ++ drop k (ran .room)) (did-is-run (m .did) ∙ ap (λ (x : List ℕ). run x calls) (L .first))
-    ∙ wholes-run k (ran .room) (L .inside) calls
+    lent-is-run k (ran .room) now (deedsOf (m .did)) (did-is-run (m .did)) (ran .lent)
     ∙ ap (λ (x : List ℕ). run x (wholes k x calls)) (ran-is-run start before (ran .room) (ran .ran))
     ∙ sym (run-after start (wholes k (run start (history start before)) calls) (history start before))
 
