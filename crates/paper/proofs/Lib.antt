@@ -18,3 +18,4 @@ pub mod Shorter
 pub mod Fields
 pub mod Numbers
 pub mod Messages
+pub mod SameMessage
