@@ -24,3 +24,7 @@ readHanded a =
       time = getD (values a) 3 0;
       counter = getD (values a) 4 0;
     }
+
+-- the fields that were handed back, as a head
+abbrev pub headRead : MessageRead → Head
+headRead r = headGiven (r .prnd) (r .prna) (r .week) (r .time) (r .counter) (r .status)

@@ -3,6 +3,7 @@
 // include/dawnstook.h.
 ghost use mathlib.Core.Path.{_≡_};
 ghost use Rattle.paper.specs.Number.{refused};
+ghost use Rattle.paper.specs.Parts.{Bytes};
 ghost use Rattle.paper.specs.Message.{buildAnswer, buildBuffer, readAnswer, readBuffer};
 ghost use Rattle.message.specs.Outcome.{builtAnswer, readBackAnswer};
 ghost use Rattle.ffi_message.specs.Handed.{headGiven, builtHanded, readHanded};
@@ -93,7 +94,8 @@ pub extern "C" fn dawnstook_build_message(
     counter: u32,
 ) -> MessageBuilt
     ensures { λ r. ⌜ (r ≡ builtHanded (buildAnswer form (headGiven prnd prna week time counter status) (now (given .entry)) (now (out .entry))))
-        × (now (out .exit) ≡ buildBuffer form (headGiven prnd prna week time counter status) (now (given .entry)) (now (out .entry))) ⌝ }
+        × (now (out .exit) ≡ buildBuffer form (headGiven prnd prna week time counter status) (now (given .entry)) (now (out .entry)))
+        × Bytes (now (given .entry)) ⌝ }
 {
     let heading = Heading {
         prnd: Svn(prnd),
@@ -112,7 +114,8 @@ pub extern "C" fn dawnstook_build_message(
 #[no_mangle]
 pub extern "C" fn dawnstook_read_message(out: &mut [u8], message: &[u8], form: u8) -> MessageRead
     ensures { λ r. ⌜ (r ≡ readHanded (readAnswer form (now (message .entry)) (now (out .entry))))
-        × (now (out .exit) ≡ readBuffer form (now (message .entry)) (now (out .entry))) ⌝ }
+        × (now (out .exit) ≡ readBuffer form (now (message .entry)) (now (out .entry)))
+        × Bytes (now (message .entry)) ⌝ }
 {
     of_read(message::read(out, form, message))
 }

@@ -37,3 +37,11 @@ timingHanded a t =
       word10 = t .word10;
       scaled = t .scaled;
     }
+
+-- the numbers in what is handed back, as the structs of `orbit`
+abbrev pub orbitIn : OrbitRead → Orbit
+orbitIn r =
+    record { word1 = r .word1; word2 = r .word2; word3 = r .word3; word4 = r .word4; word5 = r .word5; scaled = r .scaled }
+
+abbrev pub timingIn : TimingRead → TimingNumbers
+timingIn r = record { word6 = r .word6; word10 = r .word10; scaled = r .scaled }

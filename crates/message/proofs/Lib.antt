@@ -7,6 +7,7 @@ pub mod Reading
 pub mod Agree
 pub mod Trips
 pub mod Calls
+pub mod Either
 pub mod Ran
 pub mod OneToOne
 pub mod Determined

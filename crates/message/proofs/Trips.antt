@@ -20,7 +20,7 @@ use Rattle.message.specs.Heads.{joined, headNumber, headFrom}
 use Rattle.message.proofs.Sizes.{head-bytes-and-two, data-but-three, one-left}
 use Rattle.message.proofs.Joined.{Fits, head-digits, head-small, head-computed}
 use Rattle.message.proofs.Reading.{head-read}
-use Rattle.message.proofs.Agree.{bits-agree, agree-bits}
+use Rattle.message.proofs.Agree.{bits-agree}
 
 -- ---- the message is its bits
 fields-bits : (fs : List (ℕ × ℕ)) → AllBits (fieldBits fs)
@@ -147,13 +147,6 @@ one-message form h g d e ph fh pg fg ld le bd be q = (
       ∙ ap (λ (m : List ℕ). bitsFrom m (headWidth form) (recordBits (formFamily form))) q
       ∙ data-bits-back form g e pg fg),
 )
-
--- and data that agrees in its bits gives one message, whatever stands past them
-pub same-data : (form : ℕ) (h : Head) (d e : List ℕ)
-    → length d ≡ dataBytes (formFamily form) → length e ≡ dataBytes (formFamily form) → sameBits (formFamily form) d e ≡ true
-    → message form h d ≡ message form h e
-unfolding message messageBits
-same-data form h d e ld le q = rw (agree-bits (formFamily form) d e ld le q)
 
 -- ---- what reads back is what building gives
 fields-read : (m : List ℕ) (o : ℕ) (h : Head)

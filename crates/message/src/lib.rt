@@ -6,6 +6,7 @@ ghost use mathlib.Core.List.{[]};
 ghost use Prim.Native.Nat.{_/_, _^_, _<_};
 ghost use lib.Dec.{eqb, leb};
 ghost use Rattle.paper.specs.Number.{answer};
+ghost use Rattle.paper.specs.Parts.{Bytes};
 ghost use Rattle.paper.specs.Record.{dataBytes};
 ghost use Rattle.paper.specs.Satellite.{isSatellite};
 ghost use Rattle.paper.specs.Tag.{statusKnown};
@@ -210,10 +211,11 @@ fn head_number(form: u8, h: Heading) -> u64
     (moment * COUNTERS + (counter as u64)) * STATUSES + (status as u64)
 }
 
-// The message at the start of the lent buffer.
+// The message at the start of the lent buffer. That what is given are bytes follows from its type; it is said for what holds of two calls.
 pub fn build(out: &mut [u8], form: u8, h: Heading, given: &[u8]) -> Built
     ensures { λ r. ⌜ (builtAnswer r ≡ buildAnswer form (headOf h) (now (given .entry)) (now (out .entry)))
-        × (now (out .exit) ≡ buildBuffer form (headOf h) (now (given .entry)) (now (out .entry))) ⌝ }
+        × (now (out .exit) ≡ buildBuffer form (headOf h) (now (given .entry)) (now (out .entry)))
+        × Bytes (now (given .entry)) ⌝ }
 {
     let reply = build_entry(out, form, h, given);
     if let Reply::Refused(why) = reply {
@@ -296,10 +298,11 @@ fn fields_entry(form: u8, h: Heading) -> Reply
     Reply::Done
 }
 
-// The fields of a message, and its data at the start of the lent buffer.
+// The fields of a message, and its data at the start of the lent buffer; and the message are bytes.
 pub fn read(out: &mut [u8], form: u8, message: &[u8]) -> ReadBack
     ensures { λ r. ⌜ (readBackAnswer r ≡ readAnswer form (now (message .entry)) (now (out .entry)))
-        × (now (out .exit) ≡ readBuffer form (now (message .entry)) (now (out .entry))) ⌝ }
+        × (now (out .exit) ≡ readBuffer form (now (message .entry)) (now (out .entry)))
+        × Bytes (now (message .entry)) ⌝ }
 {
     let lengths = lengths_entry(out, form, message);
     if let Reply::Refused(why) = lengths {

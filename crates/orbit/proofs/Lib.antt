@@ -3,6 +3,7 @@ pub mod Tests
 pub mod Words
 pub mod Told
 pub mod Exact
+pub mod Structs
 pub mod OneToOne
 pub mod Determined
 pub mod Asks

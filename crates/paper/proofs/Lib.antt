@@ -19,3 +19,4 @@ pub mod Shorter
 pub mod Fields
 pub mod Numbers
 pub mod Messages
+pub mod SameMessage

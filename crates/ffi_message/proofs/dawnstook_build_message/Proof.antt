@@ -15,7 +15,9 @@ same-length : tie.Need-same-length
 same-length c = search needs
 
 returns : tie.Need-returns
-returns c = (c .of-built .ensures ∙ ap builtHanded (c .before .before .before .build .ensures .0), c .before .before .before .build .ensures .1)
+returns c =
+    let told = c .before .before .before .build .ensures in
+    (c .of-built .ensures ∙ ap builtHanded (told .0), told .1, told .2)
 
 pub dawnstook-build-message-spec : {M : Type 1} → statement M
 dawnstook-build-message-spec =

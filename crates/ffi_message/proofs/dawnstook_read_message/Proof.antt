@@ -15,7 +15,9 @@ same-length : tie.Need-same-length
 same-length c = search needs
 
 returns : tie.Need-returns
-returns c = (c .of-read .ensures ∙ ap readHanded (c .before .before .before .read .ensures .0), c .before .before .before .read .ensures .1)
+returns c =
+    let told = c .before .before .before .read .ensures in
+    (c .of-read .ensures ∙ ap readHanded (told .0), told .1, told .2)
 
 pub dawnstook-read-message-spec : {M : Type 1} → statement M
 dawnstook-read-message-spec =

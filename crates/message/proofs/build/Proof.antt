@@ -23,7 +23,9 @@ returns : tie.Need-returns
 returns c =
     let entry = c .before .before .before in
     let a = entry .before .before .before .before .args in
-    not-built (a .form) (headOf (a .h)) (a .given .now) (a .out .now) _ _ (c .before .reply .given .1) (entry .build-entry .ensures)
+    let known = entry .before .before .shared-slice-known .given in
+    let left = not-built (a .form) (headOf (a .h)) (a .given .now) (a .out .now) _ _ (c .before .reply .given .1) (entry .build-entry .ensures) in
+    (left .0, left .1, λ i. known i .fits)
 
 enum-told : tie.Need-enum-told
 enum-told c = search needs
@@ -77,8 +79,11 @@ returns-2 c =
     let number = head .before .before in
     let told = number .before .before in
     let a = told .before .before .before .before .before .before .args in
+    let known = told .before .before .before .before .shared-slice-known .given in
+    let left =
     built (a .form) (headOf (a .h)) (a .given .now) (a .out .now) (passed told) _ _ _ (c .before .before .write .last .0) _ (head .head-bytes .ensures)
-    (number .head-number .ensures) (number .before .message-bytes .ensures) (c .before .before .write .ensures) refl
+    (number .head-number .ensures) (number .before .message-bytes .ensures) (c .before .before .write .ensures) refl in
+    (left .0, left .1, λ i. known i .fits)
 
 pub build-spec : {M : Type 1} → statement M
 build-spec =

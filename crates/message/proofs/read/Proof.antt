@@ -23,7 +23,9 @@ returns : tie.Need-returns
 returns c =
     let entry = c .before .before .before in
     let a = entry .before .before .before .before .args in
-    lengths-refuse (a .form) (a .message .now) (a .out .now) _ _ (c .before .lengths .given .1) (entry .lengths-entry .ensures)
+    let known = entry .before .before .shared-slice-known .given in
+    let left = lengths-refuse (a .form) (a .message .now) (a .out .now) _ _ (c .before .lengths .given .1) (entry .lengths-entry .ensures) in
+    (left .0, left .1, λ i. known i .fits)
 
 enum-told : tie.Need-enum-told
 enum-told c = search needs
@@ -72,8 +74,11 @@ returns-2 c =
     let h = fields .before in
     let told = h .before .before .before in
     let a = told .before .before .before .before .before .before .args in
+    let known = told .before .before .before .before .shared-slice-known .given in
+    let left =
     fields-refuse (a .form) (a .message .now) (a .out .now) (passed told) (headOf (h .heading-of .result)) (heads h) _ _
-    (c .before .fields .given .1) (fields .fields-entry .ensures)
+    (c .before .fields .given .1) (fields .fields-entry .ensures) in
+    (left .0, left .1, λ i. known i .fits)
 
 enum-told-2 : tie.Need-enum-told-2
 enum-told-2 c = search needs
@@ -108,7 +113,9 @@ returns-3 c =
     let told = told2 .before .before .before .before .before .before in
     let a = told .before .before .before .before .before .before .args in
     let bit = padding-bit (a .form) (a .message .now) (a .out .now) (passed told) in
-    padding-refuse (a .form) (a .message .now) (a .out .now) (passed told) (fields-passed told2) (λ p. c .if1 .taken (bit ∙ p))
+    let known = told .before .before .before .before .shared-slice-known .given in
+    let left = padding-refuse (a .form) (a .message .now) (a .out .now) (passed told) (fields-passed told2) (λ p. c .if1 .taken (bit ∙ p)) in
+    (left .0, left .1, λ i. known i .fits)
 
 data-bytes-requires : tie.Need-data-bytes-requires
 data-bytes-requires c κs = search needs
@@ -142,9 +149,12 @@ returns-4 c =
     let k = h .before .before in
     let a = k .before .before .before .before .before .before .before .args in
     let bit = padding-bit (a .form) (a .message .now) (a .out .now) (passed (k .before)) in
+    let known = k .before .before .before .before .before .shared-slice-known .given in
+    let left =
     was-read (a .form) (a .message .now) (a .out .now) (passed (k .before)) (fields-passed told2) (sym bit ∙ size .before .if1 .left)
     (headOf (h .heading-of .result)) (heads h) _ _ (c .before .before .body .last .0) _ (k .head-bytes .ensures) (size .data-bytes .ensures)
-    (c .before .before .body .ensures) refl
+    (c .before .before .body .ensures) refl in
+    (left .0, left .1, λ i. known i .fits)
 
 pub read-spec : {M : Type 1} → statement M
 read-spec =
