@@ -2,17 +2,17 @@
 use mathlib.Core.Bool.{true}
 use mathlib.Core.List.{List, [], _∷_, _++_}
 use mathlib.Core.Path.{_≡_, refl, sym, ap, _∙_}
-use Prim.Native.Nat.{ℕ, _+_, _-_, _*_, _/_, _%_, _^_, _<_, _≤_}
+use Prim.Native.Nat.{ℕ, zero, suc, _+_, _-_, _/_, _%_, _^_, _<_}
 use native.Mathlib.Omega.{arith}
 use native.Mathlib.Decide.{decLt}
 use lib.Dec.{eqb}
-use lib.ListN.{length, getD, take, drop}
+use lib.ListN.{getD, take}
 use lib.Pow.{shr-shr}
-use lib.Seq.{take-at, drop-at, getD-take, length-take-le}
 use borrow.Author.Tests.{eqb-true, eq-eqb}
 use Rattle.paper.specs.Bits.{bitAt}
-use Rattle.paper.specs.Record.{Family, CED, Timing, recordBits, dataBytes, inBits, sameList, sameBits}
+use Rattle.paper.specs.Record.{Family, recordBits, dataBytes, lastWeight, inBits, sameList, sameBits}
 use Rattle.paper.proofs.StoreFacts.{both-true}
+use Rattle.paper.proofs.Views.{bits-and-bytes}
 
 pub list-true : (a b : List ℕ) → sameList a b ≡ true → a ≡ b
 unfolding sameList
@@ -37,35 +37,39 @@ unfolding sameBits
 true-bits f a b e = ap (λ (x : List ℕ). sameList x (inBits f b)) e ∙ list-same (inBits f b)
 
 -- ---- bit by bit
--- two lists with one number more behind each
-both-parts : (k : ℕ) (a b : List ℕ) (x y : ℕ) → length a ≡ k → length b ≡ k → a ++ (x ∷ []) ≡ b ++ (y ∷ []) → (a ≡ b) × (x ≡ y)
-both-parts k a b x y l l' e =
-    let last : x ∷ [] ≡ y ∷ [] = sym (drop-at a (x ∷ []) k l) ∙ ap (drop k) e ∙ drop-at b (y ∷ []) k l' in
-    (sym (take-at a (x ∷ []) k l) ∙ ap (take k) e ∙ take-at b (y ∷ []) k l', cc)
+-- data without the bits past the end has its bytes, and the top five bits of the last
+whole-byte : (n : ℕ) (x : List ℕ) (j : ℕ) → j < n → getD (take n x ++ (getD x n 0 / lastWeight ∷ [])) j 0 ≡ getD x j 0
+whole-byte zero x j h = absurd (omega arith)
+whole-byte (suc n) [] zero h = refl
+whole-byte (suc n) [] (suc j) h = refl
+whole-byte (suc n) (y ∷ x) zero h = refl
+whole-byte (suc n) (y ∷ x) (suc j) h = whole-byte n x j (omega arith)
 
--- data of k whole bytes and five bits more
-module _ (k : ℕ) (a b : List ℕ) (l : k < length a) (l' : k < length b)
-    (e : take k a ++ (getD a k 0 / 2 ^ 3 ∷ []) ≡ take k b ++ (getD b k 0 / 2 ^ 3 ∷ [])) where
-  parts : (take k a ≡ take k b) × (getD a k 0 / 2 ^ 3 ≡ getD b k 0 / 2 ^ 3)
-  parts = both-parts k (take k a) (take k b) _ _ (length-take-le k a (omega arith)) (length-take-le k b (omega arith)) e
+last-byte : (n : ℕ) (x : List ℕ) → getD (take n x ++ (getD x n 0 / lastWeight ∷ [])) n 0 ≡ getD x n 0 / lastWeight
+last-byte zero x = refl
+last-byte (suc n) [] = refl
+last-byte (suc n) (y ∷ x) = last-byte n x
 
-  whole-byte : (j : ℕ) → j < k → getD a j 0 ≡ getD b j 0
-  whole-byte j h = sym (getD-take k a j 0 h) ∙ ap (λ (s : List ℕ). getD s j 0) (parts .0) ∙ getD-take k b j 0 h
+-- a bit among the top five of a byte is one of that byte without its low three
+top-bit : (x i : ℕ) → i % 8 < 5 → x / 2 ^ (7 - i % 8) % 2 ≡ x / lastWeight / 2 ^ (4 - i % 8) % 2
+top-bit x i h =
+    let s : 7 - i % 8 ≡ 3 + (4 - i % 8) = omega arith in
+    ap (λ (k : ℕ). x / 2 ^ k % 2) s ∙ ap (λ (y : ℕ). y % 2) (sym (shr-shr x 3 (4 - i % 8)))
 
-  five-bits : (i : ℕ) → i < k * 8 + 5 → bitAt a i ≡ bitAt b i
-  five-bits i h = go (decLt (i / 8) k)
+module _ (f : Family) (a b : List ℕ) (e : sameBits f a b ≡ true) where
+  same-at : (j : ℕ) → getD (inBits f a) j 0 ≡ getD (inBits f b) j 0
+  same-at j = ap (λ (l : List ℕ). getD l j 0) (bits-true f a b e)
+
+  pub same-bit : (i : ℕ) → i < recordBits f → bitAt a i ≡ bitAt b i
+  same-bit i h = go (decLt (i / 8) (dataBytes f - 1))
     where
-      last : (m : ℕ) → getD a k 0 / 2 ^ (3 + m) ≡ getD b k 0 / 2 ^ (3 + m)
-      last m = sym (shr-shr (getD a k 0) 3 m) ∙ ap (λ (x : ℕ). x / 2 ^ m) (parts .1) ∙ shr-shr (getD b k 0) 3 m
-
-      go : Dec (i / 8 < k) → bitAt a i ≡ bitAt b i
-      go (yes g) = rw (whole-byte (i / 8) g)
-      go (no g) =
-          let at-last : i / 8 ≡ k = omega arith in
-          let weight : 7 - i % 8 ≡ 3 + (4 - i % 8) = omega arith in
-          rw (at-last, weight, last (4 - i % 8))
-
-pub same-bit : (f : Family) (a b : List ℕ) → length a ≡ dataBytes f → length b ≡ dataBytes f → sameBits f a b ≡ true
-    → (i : ℕ) → i < recordBits f → bitAt a i ≡ bitAt b i
-same-bit CED a b l l' e = five-bits (dataBytes CED - 1) a b (omega arith) (omega arith) (bits-true CED a b e)
-same-bit Timing a b l l' e = five-bits (dataBytes Timing - 1) a b (omega arith) (omega arith) (bits-true Timing a b e)
+      go : Dec (i / 8 < dataBytes f - 1) → bitAt a i ≡ bitAt b i
+      go (yes l) =
+          ap (λ (x : ℕ). x / 2 ^ (7 - i % 8) % 2)
+          (sym (whole-byte (dataBytes f - 1) a (i / 8) l) ∙ same-at (i / 8) ∙ whole-byte (dataBytes f - 1) b (i / 8) l)
+      go (no l) =
+          let n = dataBytes f - 1 in
+          let j : i / 8 ≡ n = omega (arith, bits-and-bytes f) in
+          let r : i % 8 < 5 = omega (arith, bits-and-bytes f) in
+          let q : getD a n 0 / lastWeight ≡ getD b n 0 / lastWeight = sym (last-byte n a) ∙ same-at n ∙ last-byte n b in
+          rw j (top-bit (getD a n 0) i r ∙ ap (λ (y : ℕ). y / 2 ^ (4 - i % 8) % 2) q ∙ sym (top-bit (getD b n 0) i r))

@@ -6,13 +6,16 @@ use mathlib.Core.Path.{_≡_, sym, ap, subst, _∙_}
 use Prim.Native.Nat.{ℕ, _≤_}
 use lib.ListN.{length, take, drop, take-append-drop}
 use lib.Seq.{take-at, drop-at, length-take-le}
+use Rattle.paper.specs.Record.{Family, satellite, dataOf}
 use Rattle.paper.specs.Store.{isStore}
+use Rattle.paper.specs.Message.{Head, formFamily, message}
 use Rattle.paper.specs.Call.{Call, freshCall, roomAfter, run}
+use Rattle.paper.proofs.SameMessage.{same-message}
 use Rattle.stays.proofs.Stays.{run-after, run-stays, store-never-3}
 use Rattle.stays.proofs.Untouched.{run-length}
 use Rattle.stays.proofs.Slices.{lent-room}
-use Rattle.history.specs.Line.{Place, Inside, at, tags}
-use Rattle.history.specs.Demand.{Earned}
+use Rattle.history.specs.Line.{Place, Inside, at, Tag, tags}
+use Rattle.history.specs.Demand.{EachFor, Earned}
 use Rattle.history.proofs.Demand.{demand-3}
 use Rattle.since.specs.Brought.{Origin, brought, BitsHold, AgesHold, AfterFresh}
 use Rattle.since.proofs.Brought.{bits-hold, ages-hold, cop-holds, tag-holds}
@@ -20,8 +23,9 @@ use Rattle.since.proofs.Asked.{time-holds}
 use Rattle.intake.specs.Input.{recordsOf}
 use Rattle.intake.proofs.Calls.{room-of-calls}
 use Rattle.promises.specs.Outcomes.{Did, freshDid, feedDid, tagDid, resetDid, partDid, cFreshDid, cFeedDid, cTagDid, cResetDid, cPartDid, Deeds, deedsOf}
-use Rattle.promises.specs.Covered.{Made, Lent, Ran, wholes, history, Left, byRuns, byInput, Covered, sinceFresh, wordsOf}
+use Rattle.promises.specs.Covered.{Made, Lent, Ran, wholes, history, Left, byRuns, byInput, Covered, sinceFresh, tagsOf, wordsOf}
 use Rattle.promises.specs.Statements.{Demand3OfTheCode, Never3OfTheCode, BitsOfTheCode, AgesOfTheCode, CopOfTheCode, TagOfTheCode, TimeOfTheCode}
+use Rattle.promises.specs.Statements.{EachTag, MessagesOfTheCode}
 use Rattle.promises.proofs.Joined.{fresh-is-step, feed-is-step, tag-is-step, reset-authbits-is-step}
 use Rattle.promises.proofs.Exports.{exported-fresh-is-step, exported-feed-is-step, exported-tag-is-step, exported-reset-authbits-is-step}
 use Rattle.promises.proofs.Whole.{read-in-parts}
@@ -117,7 +121,20 @@ pub cop-of-the-code : CopOfTheCode
 cop-of-the-code now covered = cop-holds now (wordsOf covered) (bits-of-the-code now covered) (ages-of-the-code now covered)
 
 pub tag-of-the-code : TagOfTheCode
-tag-of-the-code now covered = tag-holds now (wordsOf covered) (store-of-the-code covered) (cop-of-the-code now covered)
+tag-of-the-code now covered = tag-holds now (wordsOf covered) (cop-of-the-code now covered)
 
 pub time-of-the-code : TimeOfTheCode
 time-of-the-code now covered = time-holds now (wordsOf covered) (store-of-the-code covered) (ages-of-the-code now covered)
+
+-- ---- messages
+each-message : (form : ℕ) (head : Head) (sat : ℕ) (bytes : List ℕ) (ts : List Tag) → EachFor (formFamily form) sat bytes ts
+    → EachTag (λ (tag : Tag). message form head (tag .given) ≡ message form head bytes) ts
+each-message form head sat bytes [] e = tt
+each-message form head sat bytes (tag ∷ rest) e =
+    (same-message form head (tag .given) bytes (e .0 .bits), each-message form head sat bytes rest (e .1))
+
+pub messages-of-the-code : MessagesOfTheCode
+messages-of-the-code now covered place inside form f head =
+    each-message form head (satellite (at now place)) (dataOf (place .family) (at now place)) (tagsOf covered place)
+    (subst (λ (g : Family). EachFor g (satellite (at now place)) (dataOf (place .family) (at now place)) (tagsOf covered place)) (sym f)
+    (demand-3-of-the-code now covered place inside .each))

@@ -1,14 +1,16 @@
 -- What is proved of the code that runs, on one page: each statement is of any room that is covered (Covered), and is proved in proofs/ under
 -- the name beside it.
 use mathlib.Core.Bool.{Bool, true}
-use mathlib.Core.List.{List, []}
+use mathlib.Core.List.{List, [], _∷_}
 use mathlib.Core.Logic.{_≢_}
 use mathlib.Core.Path.{_≡_}
 use Prim.Native.Nat.{ℕ, _≤_}
 use lib.ListN.{length, take, replicate}
 use Rattle.paper.specs.Number.{number}
+use Rattle.paper.specs.Record.{dataOf}
+use Rattle.paper.specs.Message.{Head, formFamily, message}
 use Rattle.paper.specs.Call.{Call, answerTo}
-use Rattle.history.specs.Line.{Place, Inside, at}
+use Rattle.history.specs.Line.{Place, Inside, at, Tag}
 use Rattle.history.specs.Demand.{Earned, answeringPlace, Behind}
 use Rattle.since.specs.Brought.{BitsHold, AgesHold, CopHolds, TagHolds, TimeHolds}
 use Rattle.intake.specs.Input.{atStart, recordsOf, roomOf, linesOf, benchRoom, output}
@@ -87,6 +89,21 @@ abbrev pub TimingOfTheCode : Type 1
 TimingOfTheCode =
     (now : List ℕ) (covered : Covered now) (asking : NumbersAsking) → Answered now (numbersBy asking)
     → NumbersEarned timingFrom covered (numbersBy asking)
+
+-- ---- messages
+-- each of some tags
+abbrev pub EachTag : (Tag → Type 0) → List Tag → Type 0
+EachTag Holds [] = Unit {0}
+EachTag Holds (tag ∷ rest) = Holds tag × EachTag Holds rest
+
+-- for every tag that counts on a record, the message of the data given with it, in a form of the record's family and with any fields in front, is
+-- the message of the bits that the record holds now: `messages-of-the-code`
+abbrev pub MessagesOfTheCode : Type 1
+MessagesOfTheCode =
+    (now : List ℕ) (covered : Covered now) (place : Place) → Inside now place
+    → (form : ℕ) → formFamily form ≡ place .family → (head : Head)
+    → let held = dataOf (place .family) (at now place) in
+    EachTag (λ (tag : Tag). message form head (tag .given) ≡ message form head held) (tagsOf covered place)
 
 -- ---- an input in parts
 -- whatever the cutting, parts of no bytes among it, and whatever the lengths of the outputs, lines and room are those of one piece:

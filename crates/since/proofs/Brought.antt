@@ -8,22 +8,19 @@ use native.Mathlib.Omega.{arith}
 use borrow.Author.Tests.{eqb-true, eq-eqb, leb-true, ltb-true}
 use lib.Dec.{eqb, ltb}
 use lib.IntN.{pos, negℤ}
-use lib.ListN.{length, getD}
+use lib.ListN.{getD}
 use Rattle.paper.specs.Number.{number, values}
 use Rattle.paper.specs.Bits.{bitAt}
 use Rattle.paper.specs.Time.{secondsOf, startOf, subframeSeconds}
-use Rattle.paper.specs.Record.{Family, recordBits, ages, size, dataAt, dataBytes, satellite, agesOf, dataOf, greatest, older}
+use Rattle.paper.specs.Record.{Family, recordBits, ages, satellite, agesOf, dataOf, greatest, older}
 use Rattle.paper.specs.Room.{byTime, depth, slots, rowOf, marked, isAt, week, time}
 use Rattle.paper.specs.Word.{Owned, nothing, owns, typeOf}
-use Rattle.paper.specs.Store.{isStore}
 use Rattle.paper.specs.Tag.{familyOf, thirtyBefore, firstRow, candidateRow, candidateSlot, candidateRecord, fitsCop, hasCandidate}
 use Rattle.paper.specs.Call.{tagCall, freshCall, answerTo, roomAfter, run}
 use Rattle.paper.proofs.First.{first-holds}
-use Rattle.paper.proofs.Parts.{length-part}
 use Rattle.paper.proofs.Same.{same-bit}
 use Rattle.paper.proofs.Seconds.{negated-less, sum-seconds}
-use Rattle.paper.proofs.StoreFacts.{both-true, store-facts}
-use Rattle.paper.proofs.Views.{length-rowOf, length-record}
+use Rattle.paper.proofs.StoreFacts.{both-true}
 use Rattle.stays.proofs.Rooms.{candidate-satellite}
 use Rattle.stays.proofs.Stays.{run-stays}
 use Rattle.history.specs.Line.{Place, Inside, at, succeeds}
@@ -129,15 +126,7 @@ share-bit f k i (owns to from n age) bytes w p y st a b =
     let there : to + (i - to) ≡ i = omega arith in
     record { at = from + (i - to); is = ap (bitAt bytes) (sym there) ∙ st (i - to) (omega arith) }
 
-module _ (now : List ℕ) (words : ℕ → Place → Origin) (s : isStore now ≡ true) (cops : CopHolds now words) where
-  data-long : (place : Place) → Inside now place → length (dataOf (place .family) (at now place)) ≡ dataBytes (place .family)
-  data-long place i =
-      length-part (dataAt (place .family)) (dataBytes (place .family)) (at now place)
-      (omega (
-        arith,
-        length-record (place .family) (slots now) (place .slot) (rowOf (place .row) now) (length-rowOf now (store-facts now s) (place .row) (i .row)) (i .slot),
-      ))
-
+module _ (now : List ℕ) (words : ℕ → Place → Origin) (cops : CopHolds now words) where
   pub tag-holds : TagHolds now words
   unfolding candidateRecord
   tag-holds ruled sat kind cop l status w t given verdict e =
@@ -176,7 +165,5 @@ module _ (now : List ℕ) (words : ℕ → Place → Origin) (s : isStore now �
             its = x .its;
             within = x .within;
             place = b .at;
-            is =
-                same-bit f given bytes (accepted .whole) (data-long place (candidate-inside f sat cop w t now (passed .found))) (accepted .bits) i h
-                ∙ b .is;
+            is = same-bit f given bytes (accepted .bits) i h ∙ b .is;
           }
