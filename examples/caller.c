@@ -138,7 +138,7 @@ static void speak(size_t f, uint8_t *given, uint8_t *message, uint8_t *back, siz
     for (size_t i = 0; i < behind; i++) need(message[bytes + i] == 0xa5 && back[data + i] == 0xa5, "bytes behind a message stay");
 }
 
-/* Records of an input (STORE 17.2): each answers how many bytes it wrote. */
+/* Items of an input (STORE 17.2): each answers how many bytes it wrote. */
 static size_t put_time(uint8_t *at, uint32_t time) {
     const uint8_t bytes[] = { WEEK >> 8, WEEK & 255, (uint8_t)(time >> 24), (uint8_t)(time >> 16), (uint8_t)(time >> 8), (uint8_t)time };
     memcpy(at, bytes, sizeof bytes);
@@ -546,7 +546,7 @@ static void within(void (*body)(void), uint8_t number, const char *what) {
 /* The deepest calls hand back their result in memory, whose place is the first argument. They are made without a function around them, in
  * which compilers leave different bytes free beside a result: here it is not on this stack, and its own bytes are added. */
 
-/* A record in one part, with what its line begins with. */
+/* An item in one part, with what its line begins with. */
 static void record_within(size_t bytes, uint8_t number, const char *line) {
     static dawnstook_heard heard;
     const uint64_t arguments[ARGUMENTS] = { (uintptr_t)&heard, (uintptr_t)stack_reader, (uintptr_t)stack_room, sizeof stack_room,

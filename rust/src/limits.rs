@@ -50,7 +50,7 @@ pub const SLOT_BYTES: usize = 100;
 pub const MOST_ROOM: usize = room_size(MOST_ROWS, MOST_SLOTS);
 /// The bytes of a reader.
 pub const READER_BYTES: usize = 28;
-/// The longest line that a record may have, with its line feed.
+/// The longest line that an item of an input may have, with its line feed.
 pub const LONGEST_LINE: usize = 189;
 /// The stack of the archive's deepest call with its arguments, result and return address, as measured (docs/SPEED.md).
 pub const STACK_BYTES: usize = 352;

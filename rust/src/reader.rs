@@ -1,4 +1,4 @@
-//! An input of records, taken part by part.
+//! An input of items, a kind byte and a body each, taken part by part.
 use crate::limits::{LONGEST_LINE, READER_BYTES};
 use crate::{sys, Refusal};
 
@@ -22,13 +22,13 @@ pub struct Closed {
     pub taken: bool,
     /// How many bytes of lines stand at the start of the output. Not more than it has.
     pub said: usize,
-    /// `Ok` where the input ended between records, or where its end was not taken, else why it has ended.
+    /// `Ok` where the input ended between items, or where its end was not taken, else why it has ended.
     pub status: Result<(), Refusal>,
 }
 
-/// A reader of the bench program's input (docs/STORE.md, section 17), which takes it part by part as it comes: each record makes one call
-/// on the room, and its line goes to the output. A record of kind 6 makes a store of [`crate::Ageing::Moves`], one of kind 9 names the
-/// rule. What is not a whole record yet stays in the reader.
+/// A reader of the bench program's input (docs/STORE.md, section 17), which takes it part by part as it comes: each item makes one call
+/// on the room, and its line goes to the output. One with the kind byte 6 makes a store of [`crate::Ageing::Moves`], one with 9 names
+/// the rule. What is not a whole item yet stays in the reader.
 ///
 /// ```
 /// use dawnstook::{Reader, Refusal, MOST_ROOM};
@@ -66,7 +66,7 @@ impl Reader {
         Reader { state: [0; READER_BYTES] }
     }
 
-    /// The reader that these bytes are, as [`Reader::state`] gave them. Any bytes are one: it keeps the beginning of a record, or nothing,
+    /// The reader that these bytes are, as [`Reader::state`] gave them. Any bytes are one: it keeps the beginning of an item, or nothing,
     /// or has ended with some number.
     pub const fn resume(state: [u8; READER_BYTES]) -> Reader {
         Reader { state }
@@ -77,12 +77,12 @@ impl Reader {
         self.state
     }
 
-    /// The next part of an input; an empty one is not the end. Each record that becomes whole is called on the room, and its line is
+    /// The next part of an input; an empty one is not the end. Each item that becomes whole is called on the room, and its line is
     /// written to `out` behind those before it. All bytes are taken, save where `out` is too short: before the byte that would make a
-    /// record whole while fewer than [`LONGEST_LINE`] bytes of `out` are left, the call stops. Nothing is lost then: the caller makes `out`
+    /// item whole while fewer than [`LONGEST_LINE`] bytes of `out` are left, the call stops. Nothing is lost then: the caller makes `out`
     /// free again and goes on with `&bytes[took..]`. An `out` of [`LONGEST_LINE`] bytes takes at least one byte of a part that has one.
     ///
-    /// A byte that is no kind of record ends the input with [`Refusal::UnknownKind`]. Once it has ended, every part is taken whole and
+    /// A byte that is no kind byte ends the input with [`Refusal::UnknownKind`]. Once it has ended, every part is taken whole and
     /// ignored, with the status of the end.
     pub fn part(&mut self, room: &mut [u8], bytes: &[u8], out: &mut [u8]) -> Heard {
         let heard = unsafe {
@@ -95,7 +95,7 @@ impl Reader {
         Heard { took: heard.took, said: heard.said, status: Refusal::check(heard.number) }
     }
 
-    /// The end of the input: [`Refusal::CutShort`] inside a record, with a line, and `Ok` between records. Where the input had ended
+    /// The end of the input: [`Refusal::CutShort`] inside an item, with a line, and `Ok` between items. Where the input had ended
     /// before, the status is that of its end, with no line.
     pub fn end(&mut self, room: &[u8], out: &mut [u8]) -> Closed {
         let closed = unsafe { sys::dawnstook_end(self.state.as_mut_ptr(), room.as_ptr(), room.len(), out.as_mut_ptr(), out.len()) };

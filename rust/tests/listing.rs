@@ -1,4 +1,4 @@
-//! The bench listing of the scope paper, its records taken through the crate's calls, and through its reader: each line, and the sum of the
+//! The bench listing of the scope paper, its items taken through the crate's calls, and through its reader: each line, and the sum of the
 //! whole room after it.
 use dawnstook::*;
 
@@ -84,7 +84,7 @@ fn document_01s_listing() {
     assert_eq!(at, input.len());
 }
 
-/// With an output for one line a call stops behind each record, inside the next.
+/// With an output for one line a call stops behind each item, inside the next.
 #[test]
 fn document_01s_listing_through_a_reader() {
     let input = input();

@@ -1,4 +1,4 @@
-//! The reader: an input of records in parts of any size comes to the lines and the room that it comes to in one.
+//! The reader: an input in parts of any size comes to the lines and the room that it comes to in one.
 use dawnstook::*;
 
 /// The listing of STORE 17.7 and its lines; fifteen zero bytes of a word are written as one `z`.
@@ -11,7 +11,7 @@ fn input() -> Vec<u8> {
     (0..hex.len()).step_by(2).map(|i| u8::from_str_radix(&hex[i..i + 2], 16).unwrap()).collect()
 }
 
-/// Where each record of the listing begins, and where the last ends.
+/// Where each item of the listing begins, and where the last ends.
 fn borders() -> Vec<usize> {
     let mut at = vec![0];
     for bytes in [1, 3, 25, 25, 13, 2, 1] {
@@ -118,7 +118,7 @@ fn single_bytes_with_nothing_between() {
     assert!(run.same(&whole()));
 }
 
-/// Each line comes by itself, with the room after its record.
+/// Each line comes by itself, with the room after its item.
 #[test]
 fn a_line_for_each_record() {
     let (input, borders) = (input(), borders());
@@ -133,8 +133,8 @@ fn a_line_for_each_record() {
     for (i, line) in LINES.split_inclusive('\n').enumerate() {
         let before = run.room;
         let last = borders[i + 1] - 1;
-        run.reader.part_with(&mut run.room, &input[borders[i]..last], |_| unreachable!("no record is whole")).unwrap();
-        assert_eq!(run.room, before, "the beginning of a record makes no call");
+        run.reader.part_with(&mut run.room, &input[borders[i]..last], |_| unreachable!("no item is whole")).unwrap();
+        assert_eq!(run.room, before, "the beginning of an item makes no call");
         let mut lines = Vec::new();
         let status = run.reader.part_with(&mut run.room, &input[last..=last], |line| lines.extend_from_slice(line));
         assert_eq!(status.is_ok(), i < 6);
@@ -142,7 +142,7 @@ fn a_line_for_each_record() {
     }
 }
 
-/// An output that is too short stops before the byte that would make a record whole, and loses nothing.
+/// An output that is too short stops before the byte that would make an item whole, and loses nothing.
 #[test]
 fn too_short_an_output_loses_nothing() {
     let (input, borders, whole) = (input(), borders(), whole());
@@ -194,7 +194,7 @@ fn thirteen_stays() {
     }
 }
 
-/// Inside a record, and there alone, the end is cut short; a part that ends there is not the end.
+/// Inside an item, and there alone, the end is cut short; a part that ends there is not the end.
 #[test]
 fn fourteen_at_the_end_alone() {
     let (input, borders) = (input(), borders());
@@ -247,8 +247,8 @@ fn fresh_with_a_rule() {
     ];
     for bytes in 1..=4 {
         let (mut run, mut lines) = (Run::new(), String::new());
-        for (record, line, ageing) in steps {
-            for part in record.chunks(bytes) {
+        for (item, line, ageing) in steps {
+            for part in item.chunks(bytes) {
                 assert_eq!(run.part(part, LONGEST_LINE), Ok(()));
             }
             lines += line;
@@ -272,7 +272,7 @@ fn a_reader_is_its_bytes() {
     assert!(run.same(&whole));
 }
 
-/// How many bytes of a reader's state are the beginning of a record: none where those that it says it keeps are not.
+/// How many bytes of a reader's state are the beginning of an item: none where those that it says it keeps are not.
 fn kept(state: &[u8; READER_BYTES]) -> usize {
     let longest = match state[0] {
         1 => 24,

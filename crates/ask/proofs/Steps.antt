@@ -2,11 +2,10 @@
 use mathlib.Core.Path.{_≡_, sym, _∙_}
 use mathlib.Core.Bool.{Bool}
 use mathlib.Core.List.{List}
-use Prim.Native.Nat.{ℕ, _+_, _≤_, _<_}
+use Prim.Native.Nat.{ℕ, _+_, _<_}
 use borrow.Author.Tests.{lt-ltb}
 use lib.Dec.{ltb}
-use lib.ListN.{length}
-use Rattle.paper.specs.Record.{Family, size}
+use Rattle.paper.specs.Record.{Family}
 use Rattle.paper.specs.Room.{depth, slots, current, rowAt, rowOf, recordAt}
 use Rattle.paper.specs.Ask.{enoughSlot, rowBack}
 use Rattle.paper.specs.Store.{InRange}
@@ -16,7 +15,6 @@ use Rattle.lookup.specs.declared.Found.the-variants.{At as Slot, Nothing as Non
 use Rattle.lookup.specs.Found.{found}
 use Rattle.lookup.specs.Candidate.{placeOf}
 use Rattle.lookup.proofs.Search.{found-at, found-not}
-use Rattle.lookup.proofs.Places.{place-inside as inside}
 use Rattle.ask.specs.declared.Answering.the-variants.{At, Nothing}
 use Rattle.ask.specs.Backward.{placeBack}
 use Rattle.ask.proofs.Heads.{answersAt}
@@ -39,9 +37,6 @@ back-inside {room} {d} {c} {j} {r} F rows at below back =
 module _ {room : List ℕ} {d n c j r : ℕ} {row : List ℕ} (s : Step room d n c j r row) where
   abbrev number : ℕ
   number = rowBack (depth room) (current room) j
-
-  number-below : number < depth room
-  number-below = back-below (depth room) (current room) j (s .facts .inRing) (rw (s .rows) at (s .below))
 
   is-number : r ≡ number
   is-number = rw (s .back, s .rows, s .at)
@@ -77,9 +72,6 @@ module _ {room : List ℕ} {d n c j r : ℕ} {row : List ℕ} (s : Step room d n
 
         is-place : start + at ≡ placeOf f number slot room
         is-place = rw (is-start, eat, is-slot .0)
-
-        pub place-inside : start + at + size f ≤ length room
-        place-inside = rw is-place (inside f number slot room (is-slot .1) (s .facts) number-below)
 
         pub place-here : At start (start + at) ≡ placeBack f sat j room
         unfolding placeBack

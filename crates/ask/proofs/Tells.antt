@@ -29,7 +29,7 @@ pub record AnswerThere (f : Family) (sat : ℕ) (room : List ℕ) (place : ℕ) 
   pub bytes : part (place + dataAt f) (dataBytes f) room ≡ askData f sat room
 
 module _ (f : Family) (sat : ℕ) (room : List ℕ) where
-  -- beside a refusal, the empty part
+  -- beside a refusal, the empty slice
   pub no-data : (k : ℕ) → refused k ≡ askAnswer f sat room → [] ≡ askData f sat room
   unfolding askData askAnswer
   no-data k e = refused-part k (askNumber f sat room) _ _ e

@@ -1,4 +1,4 @@
-// The bench program (STORE 17): records from standard input, a line for each.
+// The bench program (STORE 17): items from standard input, a line for each.
 fn main() {
     reader::run(false);
 }

@@ -1,4 +1,4 @@
--- The part of the room that a record's call hands out: it is short, still there after the call, and copied whole. Assumes nothing.
+-- The slice of the room that an item's call hands out: it is short, still there after the call, and copied whole. Assumes nothing.
 use native.Mathlib.Omega.{arith}
 use mathlib.Core.Path.{_≡_, refl, ap, _∙_}
 use mathlib.Core.Bool.{Bool, true, false, cond}
@@ -51,7 +51,7 @@ part-short Fresh body room = omega arith
 part-short FreshRuled body room = omega arith
 part-short Unknown body room = omega arith
 
--- a call that hands out a part leaves the room as it is
+-- a call that hands out a slice leaves the room as it is
 pub part-after : (kind : Kind) (body room : List ℕ) → recordPart kind body (recordRoom kind body room) ≡ recordPart kind body room
 unfolding wordCall tagCallOn partTo roomAfter run
 part-after Word body room = refl

@@ -1,4 +1,4 @@
--- STORE 17.2, 17.3: the call that a record of the bench makes, its answer, the room after it and its line.
+-- STORE 17.2, 17.3: the call that an item of the bench makes, its answer, the room after it and its line.
 use Prim.Native.Nat.{ℕ}
 use mathlib.Core.Bool.{not}
 use mathlib.Core.List.{List, [], _∷_}
@@ -15,7 +15,7 @@ use Rattle.lines.specs.declared.Kind.{Kind}
 use Rattle.lines.specs.declared.Kind.the-variants.{Word, Tag, Reset, Ced, Timing, Fresh, FreshRuled, Unknown}
 use Rattle.lines.specs.Lines.{lineOf}
 
--- STORE 17.2, kind 1: satellite, band, week (2), time (4), the word
+-- STORE 17.2, kind byte 1: satellite, band, week (2), time (4), the word
 unfoldable pub wordCall : List ℕ → Call
 wordCall body = feedCall (part 8 wordBytes body) (getD body 0 0) (be16 body 2) (be32 body 4) (getD body 1 0)
 
@@ -23,18 +23,18 @@ wordCall body = feedCall (part 8 wordBytes body) (getD body 0 0) (be16 body 2) (
 unfoldable pub candidateOn : List ℕ → List ℕ → List ℕ
 candidateOn body room = candidateData (getD body 0 0) (getD body 1 0) (getD body 2 0) (be16 body 6) (be32 body 8) room
 
--- STORE 17.2, kind 2: satellite, kind, COP, length, status, verdict, week (2), time (4); the data given is the candidate's own
+-- STORE 17.2, kind byte 2: satellite, kind, COP, length, status, verdict, week (2), time (4); the data given is the candidate's own
 unfoldable pub tagCallOn : List ℕ → List ℕ → Call
 tagCallOn body room =
     tagCall (getD body 0 0) (getD body 1 0) (getD body 2 0) (getD body 3 0) (getD body 4 0) (be16 body 6) (be32 body 8)
     (candidateOn body room)
     (not (eqb (getD body 5 0) 0))
 
--- STORE 17.2, kind 9: D, N, rule
+-- STORE 17.2, kind byte 9: D, N, rule
 abbrev pub ruledCall : List ℕ → Call
 ruledCall body = freshCall (getD body 0 0) (getD body 1 0) (getD body 2 0)
 
--- what a record is on a room: a call, or a number without a call
+-- what an item is on a room: a call, or a number without a call
 pub data Deed : Type 0 where
   calls : Call → Deed
   says : ℕ → Deed
@@ -43,7 +43,7 @@ pub data Deed : Type 0 where
 abbrev pub unknownKind : ℕ
 unknownKind = 13
 
--- STORE 17.2: a record of each kind; a fresh record that names no rule has rule 0
+-- STORE 17.2: an item by its kind byte; one that makes a fresh store and names no rule has rule 0
 abbrev pub deedOf : Kind → List ℕ → List ℕ → Deed
 deedOf Word body room = calls (wordCall body)
 deedOf Tag body room = calls (tagCallOn body room)

@@ -1,4 +1,4 @@
-// One whole record of the bench program answered on a room (STORE 17.2, 17.3).
+// One whole item of the bench program answered on a room (STORE 17.2, 17.3).
 use gst::Gst;
 use gst::Tow;
 use gst::Wn;
@@ -160,7 +160,7 @@ fn fresh_ruled(room: &mut [u8], body: &[u8]) -> Outcome
     replied(navmessage::fresh(room, body[0], body[1], body[2]))
 }
 
-// The satellite that a record names: the first byte of its body.
+// The satellite that an item names: the first byte of its body.
 fn satellite(body: &[u8]) -> Svn
     ensures { λ r. ⌜ r .0 ≡ getD (now (body .entry)) 0 0 ⌝ }
 {
@@ -170,7 +170,7 @@ fn satellite(body: &[u8]) -> Svn
     Svn(body[0])
 }
 
-// What a record's call answers, and the room after it.
+// What an item's call answers, and the room after it.
 pub fn outcome(room: &mut [u8], kind: Kind, body: &[u8]) -> Outcome
     requires { ⌜ length (now body) ≡ bodyLength kind ⌝ }
     ensures { λ r. ⌜ (outcomeAnswer r ≡ recordAnswer kind (now (body .entry)) (now (room .entry)))
@@ -188,7 +188,7 @@ pub fn outcome(room: &mut [u8], kind: Kind, body: &[u8]) -> Outcome
     }
 }
 
-// The part of the room that a record's call hands out.
+// The slice of the room that an item's call hands out.
 pub fn part<'a>(room: &'a [u8], kind: Kind, body: &[u8]) -> &'a [u8]
     requires { ⌜ length (now body) ≡ bodyLength kind ⌝ }
     ensures { λ r. ⌜ now r ≡ recordPart kind (now (body .entry)) (now (room .entry)) ⌝ }
@@ -205,7 +205,7 @@ pub fn part<'a>(room: &'a [u8], kind: Kind, body: &[u8]) -> &'a [u8]
     }
 }
 
-// The line for a whole record, from a place of `out` on, and the room after it.
+// The line for a whole item, from a place of `out` on, and the room after it.
 pub fn answer(room: &mut [u8], kind: Kind, body: &[u8], out: &mut [u8], at: usize) -> usize
     requires { ⌜ (length (now body) ≡ bodyLength kind) × (at + longestLine ≤ length (now out)) ⌝ }
     ensures { λ r. ⌜ (now (room .exit) ≡ recordRoom kind (now (body .entry)) (now (room .entry)))

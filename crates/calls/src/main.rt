@@ -2,7 +2,7 @@
 // each of its numbers, a line for each number; on rooms that no call makes; and the examples of STORE 18 that have no star, which are
 // left to a program.
 //
-// A line says the call and its numbers, then after the colon what came back: the number of STORE 14.1 and its values, for a part
+// A line says the call and its numbers, then after the colon what came back: the number of STORE 14.1 and its values, for a slice
 // that is handed out its length and its Adler-32, and last the Adler-32 of the whole room, which stays where the number is not 0. The
 // lines that the gate compares with are those of tools/model, which was written from the rules (STORE 1.1, 7.7) and not from this program.
 use gst::Gst;

@@ -1,6 +1,6 @@
 -- The choice in plain sight (`three-cases`, at the end): the slot of the greatest key, the last of equals, is the last of this satellite's records
 -- if there is one, else the last without a satellite if there is one, else the last of those whose greatest age is greatest. It is said of bytes:
--- an age is 255 at most, and so below the key of a record without a satellite.
+-- an age is 255 at most, and so below the key of a record without a satellite (`unclaimedKey`).
 use native.Mathlib.Omega.{arith}
 use mathlib.Core.Path.{_≡_, refl, ap, _∙_}
 use mathlib.Core.Logic.{_≢_}
@@ -10,20 +10,20 @@ use borrow.Author.Tests.{eqb-true, eqb-false}
 use Rattle.paper.specs.Parts.{Bytes}
 use Rattle.paper.specs.Record.{Family, satellite}
 use Rattle.paper.specs.Room.{recordOf}
-use Rattle.paper.specs.Feed.{chosen}
+use Rattle.paper.specs.Feed.{unclaimedKey, ownKey, chosen}
 use Rattle.choice.specs.Cases.{hasSatellite, ageOf, hasAge, oldestAge, lastOwn, lastUnclaimed, lastOldest, orElse, threeCases}
 use Rattle.choice.specs.declared.Slot.{Slot}
 use Rattle.choice.specs.declared.Slot.the-variants.{At, Nowhere}
 use Rattle.choice.proofs.Search.{last-none}
 use Rattle.choice.proofs.Oldest.{none-older, oldest-there}
-use Rattle.choice.proofs.Keys.{last-is-greatest, key-same, key-none, key-age, key-other, age-byte, keysOf}
+use Rattle.choice.proofs.Keys.{last-is-greatest, key-same, key-none, key-age, key-other, age-below, keysOf}
 
 -- ---- each case has the greatest keys that are left
 module _ (f : Family) (sat n : ℕ) (row : List ℕ) (b : Bytes row) where
   is-own : (i : ℕ) → lastOwn f sat n row ≡ At i → chosen f sat n row ≡ i
   unfolding chosen
   is-own i e =
-      last-is-greatest (hasSatellite f sat row) (keysOf f sat row) 257 n
+      last-is-greatest (hasSatellite f sat row) (keysOf f sat row) ownKey n
       (λ j _ t. key-same f sat (recordOf f j row) (eqb-true _ _ t))
       (λ j _ t. key-other f sat j row b (eqb-false _ _ t))
       n i (omega arith) e .0
@@ -34,9 +34,9 @@ module _ (f : Family) (sat n : ℕ) (row : List ℕ) (b : Bytes row) where
   is-unclaimed : (i : ℕ) → lastOwn f sat n row ≡ Nowhere → lastUnclaimed f n row ≡ At i → chosen f sat n row ≡ i
   unfolding chosen
   is-unclaimed i o e =
-      last-is-greatest (hasSatellite f 0 row) (keysOf f sat row) 256 n
+      last-is-greatest (hasSatellite f 0 row) (keysOf f sat row) unclaimedKey n
       (λ j g t. key-none f sat (recordOf f j row) (others o j g) (eqb-true _ _ t))
-      (λ j g t. rw (key-age f sat (recordOf f j row) (others o j g) (eqb-false _ _ t)) (age-byte f j row b))
+      (λ j g t. rw (key-age f sat (recordOf f j row) (others o j g) (eqb-false _ _ t)) (age-below f j row b))
       n i (omega arith) e .0
 
   claimed : lastUnclaimed f n row ≡ Nowhere → (i : ℕ) → i < n → satellite (recordOf f i row) ≢ 0

@@ -11,7 +11,7 @@ use borrow.Author.Tests.{le-leb, lt-leb, eq-eqb, ne-eqb}
 use Rattle.paper.specs.Parts.{Bytes}
 use Rattle.paper.specs.Record.{Family, agesAt, size, satellite, ages, agesOf, greatest}
 use Rattle.paper.specs.Room.{recordAt, recordOf}
-use Rattle.paper.specs.Feed.{key, lastGreatest}
+use Rattle.paper.specs.Feed.{unclaimedKey, ownKey, key, lastGreatest}
 use Rattle.paper.proofs.Bytes.{bytes-part}
 use Rattle.paper.proofs.Lengths.{lastGreatest-lt}
 use Rattle.choice.specs.Last.{lastOf, pick}
@@ -66,11 +66,11 @@ greatest-byte [] b = omega arith
 greatest-byte (x ∷ l) b = omega (arith, b 0, greatest-byte l (λ i. b (suc i)))
 
 module _ (f : Family) (sat : ℕ) (rec : List ℕ) where
-  pub key-same : satellite rec ≡ sat → key f sat rec ≡ 257
+  pub key-same : satellite rec ≡ sat → key f sat rec ≡ ownKey
   unfolding key
   key-same e = rw (eq-eqb (satellite rec) sat e)
 
-  pub key-none : satellite rec ≢ sat → satellite rec ≡ 0 → key f sat rec ≡ 256
+  pub key-none : satellite rec ≢ sat → satellite rec ≡ 0 → key f sat rec ≡ unclaimedKey
   unfolding key
   key-none n e = rw (ne-eqb (satellite rec) sat n, eq-eqb (satellite rec) 0 e)
 
@@ -78,9 +78,9 @@ module _ (f : Family) (sat : ℕ) (rec : List ℕ) where
   unfolding key
   key-age n m = rw (ne-eqb (satellite rec) sat n, ne-eqb (satellite rec) 0 m)
 
--- ages are bytes
-pub age-byte : (f : Family) (i : ℕ) (row : List ℕ) → Bytes row → greatest (agesOf f (recordOf f i row)) < 256
-age-byte f i row b =
+-- ages are bytes, and so below both keys
+pub age-below : (f : Family) (i : ℕ) (row : List ℕ) → Bytes row → greatest (agesOf f (recordOf f i row)) < unclaimedKey
+age-below f i row b =
     let rec = bytes-part (recordAt f i) (size f) row b in
     greatest-byte (agesOf f (recordOf f i row)) (bytes-part agesAt (ages f) (recordOf f i row) rec)
 
@@ -88,9 +88,9 @@ age-byte f i row b =
 abbrev pub keysOf : Family → ℕ → List ℕ → ℕ → ℕ
 keysOf f sat row i = key f sat (recordOf f i row)
 
-pub key-other : (f : Family) (sat i : ℕ) (row : List ℕ) → Bytes row → satellite (recordOf f i row) ≢ sat → keysOf f sat row i < 257
+pub key-other : (f : Family) (sat i : ℕ) (row : List ℕ) → Bytes row → satellite (recordOf f i row) ≢ sat → keysOf f sat row i < ownKey
 key-other f sat i row b n = go (ℕ-discrete (satellite (recordOf f i row)) 0)
   where
-    go : Dec (satellite (recordOf f i row) ≡ 0) → keysOf f sat row i < 257
+    go : Dec (satellite (recordOf f i row) ≡ 0) → keysOf f sat row i < ownKey
     go (yes e) = omega (arith, key-none f sat (recordOf f i row) n e)
-    go (no m) = omega (arith, key-age f sat (recordOf f i row) n m, age-byte f i row b)
+    go (no m) = omega (arith, key-age f sat (recordOf f i row) n m, age-below f i row b)

@@ -6,28 +6,20 @@ use mathlib.Core.List.{List, _++_}
 use borrow.Author.Tests.{eq-eqb, ne-eqb}
 use lib.Dec.{eqb}
 use lib.ListN.{length, getD, take, drop}
-use Prim.Native.Nat.{ℕ, zero, suc, _+_, _-_, _*_, _≤_, _<_, min}
+use Prim.Native.Nat.{ℕ, _+_, _-_, _≤_, _<_, min}
 use Rattle.paper.specs.Parts.{part, onPart, onParts, sumParts}
-use Rattle.paper.specs.Record.{Family, dataBytes, satelliteAt, countAt, dataAt, size, satellite, count, mostCount, dataOf, sameBits, withCount}
+use Rattle.paper.specs.Record.{Family, dataBytes, satelliteAt, dataAt, size, satellite, count, mostCount, dataOf, sameBits, withCount}
 use Rattle.paper.specs.Room.{headSize, base, slotSize, rowSize, inSlot, eachRecord}
 use Rattle.paper.specs.Tag.{matches, credited}
 use Rattle.paper.proofs.Parts.{Keeps, part-part, getD-part, part-back-at, part-lent, onPart-by, onPart-none, onPart-drop, onPart-length, onParts-length, parts-step, sum-step, sum-after}
 use Rattle.paper.proofs.Views.{slot-fits}
-use Rattle.paper.proofs.Big.{length-put16}
+use Rattle.paper.proofs.Lengths.{keeps-credited}
 use Rattle.credit.specs.Slot.{takes}
-
-pub keeps-credited : (f : Family) (sat : ℕ) (given : List ℕ) (l k : ℕ) → Keeps (credited f sat given l) k
-unfolding credited
-keeps-credited f sat given l k r e = go (matches f sat given r)
-  where
-    go : (b : Bool) → length (cond b (withCount (min mostCount (count r + l)) r) r) ≡ k
-    go true = length-put16 r countAt (min mostCount (count r + l)) ∙ e
-    go false = e
 
 module _ (f : Family) (sat : ℕ) (given : List ℕ) (l : ℕ) where
   pub keeps-slot : Keeps (inSlot f (credited f sat given l)) slotSize
   keeps-slot r e =
-      onPart-length (credited f sat given l) (size f) (keeps-credited f sat given l (size f)) (base f) r (omega (arith, slot-fits f)) ∙ e
+      onPart-length (credited f sat given l) (size f) (keeps-credited (size f) f sat given l) (base f) r (omega (arith, slot-fits f)) ∙ e
 
   pub keeps-row : (n : ℕ) → Keeps (eachRecord f n (credited f sat given l)) (rowSize n)
   unfolding eachRecord

@@ -207,9 +207,9 @@ printed room (call ∷ rest) =
     let line = number (answerTo call room) ∷ (values (answerTo call room) ++ partTo call room) in
     line ∷ printed after rest
 
--- a fresh store and the five words
+-- a fresh store under rule 1 and the five words
 unfoldable pub begun : ℕ → List Call
-begun d = freshCall d 1 0 ∷ feed 1 1 0 T ∷ feed 1 2 0 T ∷ feed 1 3 0 T ∷ feed 1 4 0 T ∷ feed 1 5 170 T ∷ []
+begun d = freshCall d 1 1 ∷ feed 1 1 0 T ∷ feed 1 2 0 T ∷ feed 1 3 0 T ∷ feed 1 4 0 T ∷ feed 1 5 170 T ∷ []
 
 unfoldable pub tagsBefore : List Call
 tagsBefore =

@@ -1,5 +1,5 @@
 // The room's half of a word (STORE 10): the ring is settled for the word's subframe, and in each family the record that is chosen
-// takes the word. Each is lent as a part of the row.
+// takes the word. Each is lent as a slice of the row.
 ghost use mathlib.Core.Path.{_≡_};
 ghost use mathlib.Core.Bool.{true};
 ghost use Prim.Native.Nat.{ℕ, _≤_};

@@ -1,4 +1,4 @@
--- Laws of a part that an export hands out as its offset and its bytes: it is the paper's part, and both are 0 beside a refusal.
+-- Laws of a slice that an export hands out as its offset and its bytes: it is the paper's, and both are 0 beside a refusal.
 -- Assumes nothing.
 use native.Mathlib.Omega.{arith}
 use mathlib.Core.Path.{_≡_, sym, ap, _∙_}

@@ -1,4 +1,4 @@
--- What an export hands back for an answer: its number and its values, each 0 beside a refusal (STORE 14.3), and where the part lies.
+-- What an export hands back for an answer: its number and its values, each 0 beside a refusal (STORE 14.3), and where the slice lies.
 use Prim.Native.Nat.{ℕ}
 use lib.ListN.{getD}
 use lib.IntN.{pos}

@@ -1,4 +1,4 @@
--- Where the part that a call hands out starts in the room; 0 beside a refusal.
+-- Where the slice that a call hands out starts in the room; 0 beside a refusal.
 use Prim.Native.Nat.{ℕ, _+_}
 use mathlib.Core.Bool.{cond}
 use mathlib.Core.List.{List}

@@ -1,5 +1,5 @@
 // The store's calls for C and Rust, under plain names. Room, word and data come as a pointer and a length, numbers as numbers; the
-// number and its values go back by value, and a part of the room as its offset and its bytes. No contract here asks anything; what is owed
+// number and its values go back by value, and a slice of the room as its offset and its bytes. No contract here asks anything; what is owed
 // with a pointer from C stands in include/dawnstook.h.
 ghost use mathlib.Core.Path.{_≡_};
 ghost use mathlib.Core.Bool.{cond};
@@ -176,7 +176,7 @@ pub extern "C" fn dawnstook_tag(
     ))
 }
 
-// The candidate of a tag of this kind and COP, as a part of the room.
+// The candidate of a tag of this kind and COP, as a slice of the room.
 #[no_mangle]
 pub extern "C" fn dawnstook_candidate(
     room: &[u8],

@@ -1,5 +1,5 @@
 // The reader of `intake` for C and Rust, under plain names, in a crate of its own: what is compiled for the store's calls (`ffi`) stays as it
-// is, and who reads no records links none of this. State, room, part and output come as pointers; what is owed with one from C stands
+// is, and who reads no items links none of this. State, room, part and output come as pointers; what is owed with one from C stands
 // in include/dawnstook.h.
 ghost use mathlib.Core.Path.{_≡_};
 ghost use mathlib.Core.Bool.{false};
@@ -11,7 +11,7 @@ use intake::Closed;
 use intake::Heard;
 use intake::READER;
 
-// A part of an input of the bench: its records' lines go into `out`. All zero is the state of a reader at the start.
+// A part of an input of the bench: its items' lines go into `out`. All zero is the state of a reader at the start.
 #[no_mangle]
 pub extern "C" fn dawnstook_part(
     reader: &mut [u8; READER],

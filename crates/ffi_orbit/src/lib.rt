@@ -86,7 +86,7 @@ fn head_of(placed: Placed) -> Head
     }
 }
 
-// The data that is to be read, or the empty part.
+// The data that is to be read, or the empty slice.
 fn part_placed(room: &[u8], timing: bool, placed: Placed) -> &[u8]
     requires { ⌜ Within (familyIf timing) placed (length (now room)) ⌝ }
     ensures { λ r. ⌜ now r ≡ partPlaced (familyIf timing) placed (now (room .entry)) ⌝ }

@@ -1,4 +1,4 @@
-// The lent room, once for all code (a record's fields and sizes are its kind's own): a header, then rows of a head and N slots, a slot
+// The lent room, once for all code (a record's fields and sizes are its family's own): a header, then rows of a head and N slots, a slot
 // being one CED record and behind it one timing record. Each field starts behind the one before it.
 ghost use mathlib.Core.Path.{_≡_};
 ghost use Rattle.paper.specs.Record.{familyIf};

@@ -1,4 +1,4 @@
--- The longest record and the letter of each kind: no body is longer than a word's, and every letter has its space. Assumes nothing.
+-- The longest item and the letter of each: no body is longer than a word's, and every letter has its space. Assumes nothing.
 use mathlib.Core.Path.{_≡_, refl}
 use native.Mathlib.Omega.{arith}
 use Prim.Native.Nat.{_<_}

@@ -1,4 +1,4 @@
--- STORE 17.2: the kinds of record, the length of each one's body, and its letter.
+-- STORE 17.2: what an item asks for by its kind byte, the length of its body, and its letter.
 use Prim.Native.Nat.{ℕ, _+_}
 use mathlib.Core.Bool.{cond}
 use mathlib.Core.List.{List, [], _∷_}
@@ -7,14 +7,14 @@ use Rattle.paper.specs.Word.{wordBytes}
 use Rattle.lines.specs.declared.Kind.{Kind}
 use Rattle.lines.specs.declared.Kind.the-variants.{Word, Tag, Reset, Ced, Timing, Fresh, FreshRuled, Unknown}
 
--- STORE 17.2: the kind of a byte
+-- STORE 17.2: by its kind byte
 unfoldable pub kindOf : ℕ → Kind
 kindOf b =
     cond (eqb b 1) Word
     (cond (eqb b 2) Tag
     (cond (eqb b 3) Reset (cond (eqb b 4) Ced (cond (eqb b 5) Timing (cond (eqb b 6) Fresh (cond (eqb b 9) FreshRuled Unknown))))))
 
--- STORE 17.1: the length of the body that a kind has; an unknown kind is answered without one
+-- STORE 17.1: the length of its body; behind an unknown kind byte there is none
 abbrev pub bodyLength : Kind → ℕ
 bodyLength Word = 1 + 1 + 2 + 4 + wordBytes
 bodyLength Tag = 6 + 2 + 4
@@ -25,11 +25,11 @@ bodyLength Fresh = 2
 bodyLength FreshRuled = 3
 bodyLength Unknown = 0
 
--- the longest record: its kind and a word's body
+-- the longest item: its kind byte and a word's body
 abbrev pub longestRecord : ℕ
 longestRecord = 1 + bodyLength Word
 
--- STORE 17.2: the letter of a kind, and x, each with the space behind it
+-- STORE 17.2: its letter, and x, each with the space behind it
 abbrev pub letterOf : Kind → List ℕ
 letterOf Word = 119 ∷ 32 ∷ []
 letterOf Tag = 116 ∷ 32 ∷ []

@@ -54,7 +54,7 @@ valuesText sat (x ∷ y ∷ []) part = []
 valuesText sat (count ∷ w ∷ t ∷ []) part = readingText sat count w t part
 valuesText sat (x ∷ y ∷ z ∷ v ∷ l) part = []
 
--- STORE 17.3: the letter of its kind and the number, and what stands behind 0
+-- STORE 17.3: its letter and the number, and what stands behind 0
 unfoldable pub lineOf : Kind → ℕ → Answer → List ℕ → List ℕ
 lineOf kind sat a part =
     letterOf kind ++ (decimal (number a) ++ (valuesText sat (values a) part ++ (10 ∷ [])))

@@ -1,4 +1,4 @@
-// The lines of the bench program (STORE 17): the kinds of record, and an answer as one line of text.
+// The lines of the bench program (STORE 17): what an item asks for, and an answer as one line of text.
 use gst::Gst;
 use limits::WORD_BYTES;
 use records::Ced;
@@ -19,13 +19,13 @@ ghost use Rattle.lines.specs.Kinds.{kindOf, bodyLength, letterOf};
 ghost use Rattle.lines.specs.Lines.{mostSpaced, mostNumbers, mostSatellite, mostReading, longestLine};
 ghost use Rattle.lines.specs.Lines.{outcomeAnswer, spaced, numbersText, readingText, valuesText, lineOf};
 
-// STORE 17.2, kind 1: satellite, band, week, time, the word
+// STORE 17.2, kind byte 1: satellite, band, week, time, the word
 const WORD_BODY: usize = 1 + 1 + 2 + 4 + WORD_BYTES;
 
-// STORE 17.2, kind 2: satellite, kind, COP, length, status, verdict, week, time
+// STORE 17.2, kind byte 2: satellite, kind, COP, length, status, verdict, week, time
 const TAG_BODY: usize = 6 + 2 + 4;
 
-// the longest record: its kind and a word's body
+// the longest item: its kind byte and a word's body
 pub const LONGEST_RECORD: usize = 1 + WORD_BODY;
 
 // a number behind its space
@@ -37,7 +37,7 @@ const READING: usize = (1 + 3) + 3 * SPACED + (1 + 2 * Ced::BYTES);
 // the longest line: its letter, its number, a CED record's data behind it and the line's end
 pub const LONGEST_LINE: usize = 2 + MOST_DIGITS + READING + 1;
 
-// What a record asks for.
+// What an item asks for.
 pub enum Kind {
     Word,
     Tag,
@@ -62,7 +62,7 @@ pub enum Outcome {
 }
 
 impl Kind {
-    // The kind of a record by its first byte.
+    // What an item asks for, by its kind byte.
     pub fn of(byte: u8) -> Kind
         ensures { λ r. ⌜ r ≡ kindOf byte ⌝ }
     {

@@ -1,4 +1,4 @@
--- A record of a slot of a row, as a part of the room: within it, the record itself, and its data. Assumes nothing.
+-- A record of a slot of a row, as a slice of the room: within it, the record itself, and its data. Assumes nothing.
 use native.Mathlib.Omega.{arith}
 use mathlib.Core.Path.{_≡_, sym, ap, _∙_}
 use mathlib.Core.List.{List}

@@ -1,12 +1,12 @@
-// Messages under tags (STORE 21), built and read back. Standard input is records, one behind the other; numbers are big-endian, and a field
-// with no size is a byte. Each record prints a line.
+// Messages under tags (STORE 21), built and read back. Standard input is items, one behind the other; numbers are big-endian, and a field
+// with no size is a byte. Each item prints a line.
 //
 //     1, form, sender, data's satellite, week 2, time 4, status, counter 4, room, n, data n     b and the number
 //     2, form, room, n, message n                                                               r and the number
 //
 // Room is how many bytes are lent to the call, all a5 before it. Behind 0 stand, of a message read back, the data's satellite, the sender,
-// week, time, counter and status; and last the whole lent buffer in hex. A byte that is no kind prints `x 13`, an input that ends inside a
-// record `x 14`; after either the program stops.
+// week, time, counter and status; and last the whole lent buffer in hex. A byte that is no kind byte prints `x 13`, an input that ends inside a
+// item `x 14`; after either the program stops.
 use gst::Gst;
 use gst::Tow;
 use gst::Wn;
@@ -22,10 +22,10 @@ use text::put_hex;
 ghost use Prim.Native.Nat.{_≤_};
 ghost use lib.ListN.{length};
 
-// the bytes of a record that builds behind its kind, up to its data
+// the bytes of an item that builds behind its kind byte, up to its data
 const BUILD_FIELDS: usize = 16;
 
-// those of a record that reads back, up to its message
+// those of an item that reads back, up to its message
 const READ_FIELDS: usize = 3;
 
 // the most bytes of data, message or room, which one byte counts
@@ -141,7 +141,7 @@ fn filled(bytes: &mut [u8]) -> bool {
     io::read_full(STDIN_FILENO, bytes) >= bytes.len()
 }
 
-// The data of a record that builds, and its line: whether the data is there.
+// The data of an item that builds, and its line: whether the data is there.
 fn build_line(fields: &[u8; BUILD_FIELDS], data: &mut [u8], buffer: &mut [u8]) -> bool
     requires { ⌜ length (now buffer) ≤ 255 ⌝ }
 {
@@ -155,7 +155,7 @@ fn build_line(fields: &[u8; BUILD_FIELDS], data: &mut [u8], buffer: &mut [u8]) -
     true
 }
 
-// The message of a record that reads back, and its line: whether the message is there.
+// The message of an item that reads back, and its line: whether the message is there.
 fn read_line(form: u8, given: &mut [u8], buffer: &mut [u8]) -> bool
     requires { ⌜ length (now buffer) ≤ 255 ⌝ }
 {
@@ -169,7 +169,7 @@ fn read_line(form: u8, given: &mut [u8], buffer: &mut [u8]) -> bool
     true
 }
 
-// A record that builds: whether it is whole.
+// An item that builds: whether it is whole.
 fn build_one() -> bool {
     let mut fields = [0u8; BUILD_FIELDS];
     let mut data = [0u8; MOST_BYTES];
@@ -182,7 +182,7 @@ fn build_one() -> bool {
     build_line(&fields, &mut data[..n], &mut buffer[..room])
 }
 
-// A record that reads back: whether it is whole.
+// An item that reads back: whether it is whole.
 fn read_one() -> bool {
     let mut fields = [0u8; READ_FIELDS];
     let mut given = [0u8; MOST_BYTES];
@@ -195,7 +195,7 @@ fn read_one() -> bool {
     read_line(fields[0], &mut given[..n], &mut buffer[..room])
 }
 
-// Where the input ends: inside a record, or not. Behind the end a read brings nothing, and one that failed fails again.
+// Where the input ends: inside an item, or not. Behind the end a read brings nothing, and one that failed fails again.
 fn ended(inside: bool) {
     let mut more = [0u8; 1];
     if libc::read(STDIN_FILENO, &mut more) < 0 {
@@ -207,7 +207,7 @@ fn ended(inside: bool) {
     }
 }
 
-// Whether there may be another record behind one.
+// Whether there may be another item behind one.
 fn goes_on(whole: bool) -> bool {
     if !whole {
         ended(true);
@@ -215,7 +215,7 @@ fn goes_on(whole: bool) -> bool {
     whole
 }
 
-// The next record of standard input: whether the program goes on.
+// The next item of standard input: whether the program goes on.
 fn next() -> bool {
     let mut kind = [0u8; 1];
     if !filled(&mut kind) {
@@ -232,7 +232,7 @@ fn next() -> bool {
     }
 }
 
-// A proved loop has to end, and nothing says that an input does: it counts the records down, from a number that no run uses up.
+// A proved loop has to end, and nothing says that an input does: it counts the items down, from a number that no run uses up.
 fn main() {
     let mut left = u64::MAX;
     while left > 0 {

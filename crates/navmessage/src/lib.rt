@@ -99,7 +99,7 @@ pub fn candidate(room: &[u8], svn: Svn, kind: u8, cop: u8, mack: Gst) -> Reply
     }
 }
 
-// The candidate's data as part of the room, or the empty part.
+// The candidate's data as a slice of the room, or the empty slice.
 pub fn candidate_data(room: &[u8], svn: Svn, kind: u8, cop: u8, mack: Gst) -> &[u8]
     ensures { λ r. ⌜ now r ≡ candidateData (svn .0) kind cop (mack .wn .0) (mack .tow .0) (now (room .entry)) ⌝ }
 {
@@ -130,7 +130,7 @@ fn ask_for(room: &[u8], timing: bool, svn: Svn) -> Asked
     }
 }
 
-// The data of the record that answers, or the empty part.
+// The data of the record that answers, or the empty slice.
 fn data_for(room: &[u8], timing: bool, svn: Svn) -> &[u8]
     ensures { λ r. ⌜ now r ≡ askData (familyIf timing) (svn .0) (now (room .entry)) ⌝ }
 {
@@ -154,14 +154,14 @@ pub fn get_timing_parameters(room: &[u8], svn: Svn) -> Asked
     ask_for(room, true, svn)
 }
 
-// The 69 bytes behind `get_ced_and_status` as part of the room, or the empty part.
+// The 69 bytes behind `get_ced_and_status` as a slice of the room, or the empty slice.
 pub fn ced_and_status_data(room: &[u8], svn: Svn) -> &[u8]
     ensures { λ r. ⌜ now r ≡ askData CED (svn .0) (now (room .entry)) ⌝ }
 {
     data_for(room, false, svn)
 }
 
-// The 18 bytes behind `get_timing_parameters` as part of the room, or the empty part.
+// The 18 bytes behind `get_timing_parameters` as a slice of the room, or the empty slice.
 pub fn timing_parameters_data(room: &[u8], svn: Svn) -> &[u8]
     ensures { λ r. ⌜ now r ≡ askData Timing (svn .0) (now (room .entry)) ⌝ }
 {

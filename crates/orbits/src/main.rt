@@ -243,7 +243,7 @@ fn said_timing(got: GotTiming) {
     }
 }
 
-// What stands behind the line of a record of this kind.
+// What stands behind the line of an item of this kind.
 fn behind(room: &[u8], kind: Kind, svn: Svn) {
     match kind {
         Kind::Ced => said_orbit(orbit::get_orbit(room, svn)),
@@ -252,7 +252,7 @@ fn behind(room: &[u8], kind: Kind, svn: Svn) {
     }
 }
 
-// The line of a whole record.
+// The line of a whole item.
 fn line(room: &mut [u8], kind: Kind, body: &[u8])
     requires { ⌜ length (now body) ≡ bodyLength kind ⌝ }
 {
@@ -261,7 +261,7 @@ fn line(room: &mut [u8], kind: Kind, body: &[u8])
     text(&out[..end]);
 }
 
-// The body of a record from standard input, and its line: whether it is there.
+// The body of an item from standard input, and its line: whether it is there.
 fn one(room: &mut [u8], kind: Kind, bytes: &mut [u8]) -> bool
     requires { ⌜ bodyLength kind ≤ length (now bytes) ⌝ }
 {
@@ -273,7 +273,7 @@ fn one(room: &mut [u8], kind: Kind, bytes: &mut [u8]) -> bool
     true
 }
 
-// Where the input ends: inside a record, or not. Behind the end a read brings nothing, and one that failed fails again.
+// Where the input ends: inside an item, or not. Behind the end a read brings nothing, and one that failed fails again.
 fn ended(inside: bool) {
     let mut more = [0u8; 1];
     if libc::read(STDIN_FILENO, &mut more) < 0 {
@@ -285,7 +285,7 @@ fn ended(inside: bool) {
     }
 }
 
-// Whether there may be another record behind one of this kind.
+// Whether there may be another item behind one of this kind.
 fn goes_on(kind: Kind) -> bool {
     match kind {
         Kind::Unknown => false,
@@ -293,7 +293,7 @@ fn goes_on(kind: Kind) -> bool {
     }
 }
 
-// The next record of standard input: whether the program goes on.
+// The next item of standard input: whether the program goes on.
 fn next(room: &mut [u8]) -> bool {
     let mut head = [0u8; 1];
     let mut body = [0u8; LONGEST_RECORD];
@@ -310,7 +310,7 @@ fn next(room: &mut [u8]) -> bool {
     goes_on(kind)
 }
 
-// A proved loop has to end, and nothing says that an input does: it counts the records down, from a number that no run uses up.
+// A proved loop has to end, and nothing says that an input does: it counts the items down, from a number that no run uses up.
 fn main() {
     let mut room = [0u8; MOST_ROOM];
     let mut left = u64::MAX;

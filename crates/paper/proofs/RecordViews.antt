@@ -19,7 +19,7 @@ use Rattle.paper.proofs.Big.{put16-other, put16-drop, be16-put16, be16-
 use Rattle.paper.proofs.Parts.{Keeps, length-part, getD-part, getD-same-before, onPart-length, onPart-part, onPart-take, onPart-before, onPart-drop, part-replicate}
 use Rattle.paper.proofs.Lengths.{keeps-const, keeps-map, keeps-moved, keeps-withCount}
 
--- ---- parts of a record
+-- ---- fields of a record
 -- what lies before the data is read the same in records that agree there, and so is the data
 pub same-count : (x y : List ℕ) → take agesAt x ≡ take agesAt y → count x ≡ count y
 same-count x y e = be16-before agesAt countAt x y e (omega arith)

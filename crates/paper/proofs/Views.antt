@@ -63,7 +63,7 @@ facts-same x y F l d n c =
       fits = rw (l, d, n) (F .fits);
     }
 
--- the other kind of record
+-- the other family
 abbrev pub other : Family → Family
 other CED = Timing
 other Timing = CED
@@ -78,7 +78,7 @@ record-fits f n i h = omega (arith, slot-fits f)
 pub length-record : (f : Family) (n i : ℕ) (row : List ℕ) → length row ≡ rowSize n → i < n → length (recordOf f i row) ≡ size f
 length-record f n i row l h = length-part (recordAt f i) (size f) row (omega (arith, record-fits f n i h))
 
--- a record of a slot, as a part of the row
+-- a record of a slot, as a slice of the row
 pub record-in-slot : (f : Family) (i : ℕ) (row : List ℕ) → part (base f) (size f) (part (slotAt i) slotSize row) ≡ recordOf f i row
 record-in-slot f i row = part-part (base f) (size f) (slotAt i) slotSize row (slot-fits f)
 

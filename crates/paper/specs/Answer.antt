@@ -1,4 +1,4 @@
--- STORE 14, call by call: the number in its order, the answer, the part, and the room afterwards.
+-- STORE 14, call by call: the number in its order, the answer, the slice of the room, and the room afterwards.
 use Prim.Native.Nat.{ℕ}
 use mathlib.Core.Bool.{Bool, cond, not, _&&_}
 use mathlib.Core.List.{List, [], _∷_}
@@ -21,7 +21,7 @@ use Rattle.paper.specs.Reset.{reset}
 abbrev pub roomFor : ℕ → List ℕ → List ℕ → List ℕ
 roomFor k after room = cond (eqb k 0) after room
 
--- STORE 14.4: the part where the number is not 0
+-- STORE 14.4: the slice where the number is not 0
 abbrev pub partFor : ℕ → List ℕ → List ℕ
 partFor k part = cond (eqb k 0) part []
 
@@ -94,7 +94,7 @@ candidateNumber sat kind cop w t room = untilCandidate (copAllowed cop) (kindKno
 abbrev pub candidateAnswer : ℕ → ℕ → ℕ → ℕ → ℕ → List ℕ → Answer
 candidateAnswer sat kind cop w t room = answer (candidateNumber sat kind cop w t room) []
 
--- STORE 11.9: the candidate's data, a part of the room
+-- STORE 11.9: the candidate's data, a slice of the room
 unfoldable pub candidateData : ℕ → ℕ → ℕ → ℕ → ℕ → List ℕ → List ℕ
 candidateData sat kind cop w t room =
     partFor (candidateNumber sat kind cop w t room)

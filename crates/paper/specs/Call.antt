@@ -29,7 +29,7 @@ answerTo (candidateCall sat kind cop w t) room = candidateAnswer sat kind cop w 
 answerTo (askCall f sat) room = askAnswer f sat room
 answerTo resetCall room = resetAnswer room
 
--- the part of the room that a call hands out
+-- the slice of the room that a call hands out
 unfoldable pub partTo : Call → List ℕ → List ℕ
 partTo (freshCall d n rule) room = []
 partTo (feedCall word sat w t band) room = []

@@ -6,7 +6,7 @@ use lib.ListN.{set}
 use lib.Dec.{leb, ltb, eqb}
 use Rattle.paper.specs.Big.{put16, put32}
 use Rattle.paper.specs.Parts.{part, onPart}
-use Rattle.paper.specs.Record.{Family, CED, Timing, size, satellite, agesOf, aged, greatest}
+use Rattle.paper.specs.Record.{Family, CED, Timing, size, satellite, agesOf, oldest, aged, greatest}
 use Rattle.paper.specs.Room.{currentAt, markAt, weekAt, timeAt, headSize, slotSize, rowSize, depth, slots, current, byTime}
 use Rattle.paper.specs.Room.{rowAt, rowOf, week, time, marked, isAt, recordAt, recordOf, eachRecord}
 use Rattle.paper.specs.Time.{isEarlier, goneBy}
@@ -62,9 +62,17 @@ currentMarked w t room = onPart (markedAt w t) (rowAt (slots room) (current room
 unfoldable pub settled : ℕ → ℕ → List ℕ → List ℕ
 settled w t room = let r = cond (moves w t room) (advanced (risesBy w t room) room) room in currentMarked w t r
 
--- STORE 10.5: the key of a record
+-- STORE 10.5: two keys above every age: 256, of a record without a satellite, and 257, of one of the word's satellite. They are no ages:
+-- chosen by the greatest key, the last of equals, a record is one of three cases (`three-cases`, crates/choice/proofs/Cases)
+abbrev pub unclaimedKey : ℕ
+unclaimedKey = oldest + 1
+
+abbrev pub ownKey : ℕ
+ownKey = unclaimedKey + 1
+
+-- the key of a record
 unfoldable pub key : Family → ℕ → List ℕ → ℕ
-key f sat rec = cond (eqb (satellite rec) sat) 257 (cond (eqb (satellite rec) 0) 256 (greatest (agesOf f rec)))
+key f sat rec = cond (eqb (satellite rec) sat) ownKey (cond (eqb (satellite rec) 0) unclaimedKey (greatest (agesOf f rec)))
 
 -- STORE 10.5: the last of the places with the greatest key, among the first n places
 unfoldable pub lastGreatest : (ℕ → ℕ) → ℕ → ℕ

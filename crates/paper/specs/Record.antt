@@ -1,4 +1,4 @@
--- STORE 6: the two kinds, their sizes, and the parts of a record.
+-- STORE 6: the two families, their sizes, and the fields of a record.
 use Prim.Native.Nat.{ℕ, _+_, _-_, _/_, _^_, min, max}
 use mathlib.Core.Bool.{Bool, true, false, _&&_}
 use mathlib.Core.List.{List, [], _∷_, _++_, map}

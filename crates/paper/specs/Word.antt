@@ -60,7 +60,7 @@ unfoldable pub covers : Family → ℕ → List Line → Bool
 covers f k [] = eqb k (recordBits f)
 covers f k (l ∷ ls) = cond (sameFamily (l .family) f) (eqb (l .recordFrom) k && covers f (l .recordTo) ls) (covers f k ls)
 
--- STORE 5.4: the part that a word owns: so many bits to a bit of the record from a bit of the word, and an age
+-- STORE 5.4: the share that a word owns: so many bits to a bit of the record from a bit of the word, and an age
 pub data Owned : Type 0 where
   nothing : Owned
   owns : ℕ → ℕ → ℕ → ℕ → Owned

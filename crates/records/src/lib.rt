@@ -1,4 +1,4 @@
-// The two kinds of record with their sizes, where the fields of a record start, and its ages, which travel as a small array by value.
+// The two families of records with their sizes, where the fields of a record start, and its ages, which travel as a small array by value.
 // What is done to ages is written once, over any number of them.
 ghost use mathlib.Core.Path.{_≡_};
 ghost use mathlib.Core.List.{map};
@@ -6,7 +6,7 @@ ghost use Prim.Native.Nat.{max, min};
 ghost use lib.ListN.{length};
 ghost use Rattle.paper.specs.Record.{CED, Timing as TIMING, familyIf, size, dataAt, dataBytes, agesOf, withAges, older, greatest, least};
 
-// Where the fields of a record of either kind start, each behind the one before it: its satellite is one byte.
+// Where the fields of a record of either family start, each behind the one before it: its satellite is one byte.
 pub const SATELLITE_AT: usize = 0;
 
 // its count is two bytes
@@ -138,7 +138,7 @@ impl Timing {
     }
 }
 
-// The whole record of either kind, from whether it is timing.
+// The whole record of either family, from whether it is timing.
 pub fn size_of(timing: bool) -> usize
     ensures { λ r. ⌜ r ≡ size (familyIf timing) ⌝ }
 {

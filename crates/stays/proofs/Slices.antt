@@ -1,4 +1,4 @@
--- A room lent in part: on the first k bytes, k no less than the formula's length, every call answers as on the whole and leaves the same
+-- A slice of the room lent: on the first k bytes, k no less than the formula's length, every call answers as on the whole and leaves the same
 -- first k bytes; on fewer it is refused and leaves them. Assumes nothing.
 use mathlib.Core.Bool.{Bool, true, false, cond, not, _&&_}
 use mathlib.Core.List.{List, [], _∷_, _++_}
@@ -383,7 +383,7 @@ module _ (k : ℕ) where
       ∙ shorter-onParts (blankRow n) (rowSize n) (keeps-blankRow n) k d headerSize (onPart (λ (_ : List ℕ). header d n rule) 0 headerSize room) h
       (rw (onPart-length (λ (_ : List ℕ). header d n rule) headerSize keep 0 room (omega arith)) g)
 
--- ---- the answer, the part and the room of a call, by its number
+-- ---- the answer, the slice and the room of a call, by its number
 answer-same : (n : ℕ) (v v' : List ℕ) → (n ≡ 0 → v ≡ v') → answer n v ≡ answer n v'
 answer-same zero v v' e = ap done (e refl)
 answer-same (suc n) v v' e = refl

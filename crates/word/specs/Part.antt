@@ -1,4 +1,4 @@
--- What this crate's answer on the part that a word owns means in the definitions of `paper`.
+-- What this crate's answer on the share that a word owns means in the definitions of `paper`.
 use Rattle.paper.specs.Word.{Owned, nothing, owns}
 use Rattle.word.specs.declared.Owned as code
 use Rattle.word.specs.declared.Owned.the-variants.{Nothing, Owns}

@@ -14,7 +14,7 @@ use records::OLDEST;
 use records::SATELLITE_AT;
 use records::Timing;
 
-// STORE 5.4, the part that a word owns: so many bits to a bit of the record from a bit of the word, and an age.
+// STORE 5.4, the share that a word owns: so many bits to a bit of the record from a bit of the word, and an age.
 enum Owned {
     Nothing,
     Owns {

@@ -1,4 +1,4 @@
--- `answer`: the answer's line, with the part that is still there after the call.
+-- `answer`: the answer's line, with the slice that is still there after the call.
 use native.Mathlib.Omega.{arith}
 use mathlib.Core.Path.{_≡_, refl, ap, _∙_}
 use Rattle.benchlines.specs.Records.{recordPart, recordLine}

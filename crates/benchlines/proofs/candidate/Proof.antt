@@ -1,4 +1,4 @@
--- `candidate`: the part is short enough, and stands at the start of `given`.
+-- `candidate`: the slice is short enough, and stands at the start of `given`.
 use native.Mathlib.Omega.{arith}
 use mathlib.Core.Path.{_∙_}
 use lib.ListN.{getD}

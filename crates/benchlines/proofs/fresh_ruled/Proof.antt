@@ -1,4 +1,4 @@
--- `fresh_ruled`: the call is that of the record.
+-- `fresh_ruled`: the call is that of the item.
 use mathlib.Core.Path.{_∙_}
 use Rattle.paper.specs.Call.{answerTo, roomAfter}
 use borrow.Author.Needs.{needs}

@@ -1,4 +1,4 @@
--- `reset`: the call is that of the record.
+-- `reset`: the call is that of the item.
 use mathlib.Core.Path.{_∙_}
 use Rattle.paper.specs.Call.{answerTo, roomAfter}
 use borrow.Author.Needs.{needs}

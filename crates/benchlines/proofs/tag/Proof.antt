@@ -1,4 +1,4 @@
--- `tag`: the call is that of the record, with the candidate's data.
+-- `tag`: the call is that of the item, with the candidate's data.
 use native.Mathlib.Omega.{arith}
 use mathlib.Core.Path.{sym, _∙_}
 use lib.Seq.{length-take-le}

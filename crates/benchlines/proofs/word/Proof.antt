@@ -1,4 +1,4 @@
--- `word`: the call is that of the record, whose week and time are numbers of two and four bytes.
+-- `word`: the call is that of the item, whose week and time are numbers of two and four bytes.
 use mathlib.Core.Path.{_∙_}
 use Rattle.paper.specs.Call.{answerTo, roomAfter}
 use Rattle.benchlines.specs.Records.{wordCall}

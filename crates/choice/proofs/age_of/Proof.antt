@@ -1,4 +1,4 @@
--- The ages of the record of slot i, lent as a part of the row.
+-- The ages of the record of slot i, lent as a slice of the row.
 use native.Mathlib.Omega.{arith}
 use mathlib.Core.Path.{ap, _∙_}
 use borrow.Author.Needs.{needs}

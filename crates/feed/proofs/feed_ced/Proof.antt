@@ -1,4 +1,4 @@
--- The chosen record, lent as a part of the row, comes back fed.
+-- The chosen record, lent as a slice of the row, comes back fed.
 use native.Mathlib.Omega.{arith}
 use Rattle.paper.specs.Record.{CED}
 use Rattle.feed.proofs.Fed.{fed-back}

@@ -1,4 +1,4 @@
--- The part that is lent is the current row, and comes back with the word in it.
+-- The slice that is lent is the current row, and comes back with the word in it.
 use Prim.Native.Nat.{_+_, _≤_, _<_}
 use native.Mathlib.Omega.{arith}
 use borrow.Author.Needs.{needs}

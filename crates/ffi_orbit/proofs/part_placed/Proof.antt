@@ -1,4 +1,4 @@
--- `part_placed`: the data at the place, or the empty part.
+-- `part_placed`: the data at the place, or the empty slice.
 use mathlib.Core.Path.{sym, ap, subst, _∙_}
 use lib.ListN.{length}
 use Rattle.paper.specs.Record.{familyIf}

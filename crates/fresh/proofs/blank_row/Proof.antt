@@ -1,4 +1,4 @@
--- `fresh::blank_row` meets its contract: zeros in the head come back as a change of that part.
+-- `fresh::blank_row` meets its contract: zeros in the head come back as a change of that slice.
 use native.Mathlib.Omega.{arith}
 use borrow.Author.Needs.{needs}
 use mathlib.Core.Path.{refl, ap, _∙_}

@@ -1,4 +1,4 @@
--- `fresh::blank_slot` meets its contract: the lent parts are the slot's two records, each of its kind's length.
+-- `fresh::blank_slot` meets its contract: the lent slices are the slot's two records, each of its family's length.
 use native.Mathlib.Omega.{arith}
 use borrow.Author.Needs.{needs}
 use Rattle.paper.proofs.Parts.{length-part}

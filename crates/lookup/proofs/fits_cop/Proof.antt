@@ -1,4 +1,4 @@
--- The record that is lent is the part that starts at `at`, of the length of its family.
+-- The record that is lent is the slice that starts at `at`, of the length of its family.
 use mathlib.Core.Path.{ap, _∙_}
 use native.Mathlib.Omega.{arith}
 use Rattle.paper.specs.Record.{CED, Timing, size}

@@ -1,4 +1,4 @@
--- `main`: the records that are left fall.
+-- `main`: the items that are left fall.
 use native.Mathlib.Omega.{arith}
 use Rattle.messages.proofs.main.Statement.{statement}
 use Rattle.messages.proofs.main.Tie as tie

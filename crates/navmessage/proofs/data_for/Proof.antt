@@ -1,4 +1,4 @@
--- `data_for` hands out the data at the place that `ask` answered, or the empty part.
+-- `data_for` hands out the data at the place that `ask` answered, or the empty slice.
 use mathlib.Core.Path.{sym, ap, _∙_}
 use Rattle.paper.specs.Record.{familyIf}
 use Rattle.ask.specs.Answered.{answeredAnswer, placeAnswered}

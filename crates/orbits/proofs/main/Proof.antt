@@ -1,4 +1,4 @@
--- `main`: the records that are left fall.
+-- `main`: the items that are left fall.
 use native.Mathlib.Omega.{arith}
 use mathlib.Core.Path.{_≡_, refl}
 use lib.ListN.{length}

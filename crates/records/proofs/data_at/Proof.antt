@@ -1,4 +1,4 @@
--- `records::data_at` meets its contract: in either family it is the kind's own constant.
+-- `records::data_at` meets its contract: in either family it is the family's own constant.
 use Rattle.records.proofs.data_at.Statement.{statement}
 use Rattle.records.proofs.data_at.Tie as tie
 

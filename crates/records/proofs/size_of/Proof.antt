@@ -1,4 +1,4 @@
--- `records::size_of` meets its contract: in either family it is the kind's own constant.
+-- `records::size_of` meets its contract: in either family it is the family's own constant.
 use Rattle.records.proofs.size_of.Statement.{statement}
 use Rattle.records.proofs.size_of.Tie as tie
 

@@ -1,4 +1,4 @@
--- The steps of the code, in the order of the definition: the copy, the current row, the ages of the part that is lent.
+-- The steps of the code, in the order of the definition: the copy, the current row, the ages of the slice that is lent.
 use mathlib.Core.Path.{_∙_}
 use native.Mathlib.Omega.{arith}
 use lib.ListN.{length-set}

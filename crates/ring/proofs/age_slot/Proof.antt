@@ -1,4 +1,4 @@
--- Each record is lent as its part of the slot.
+-- Each record is lent as its slice of the slot.
 use mathlib.Core.Path.{refl, ap, _∙_}
 use Rattle.paper.specs.Parts.{onPart}
 use Rattle.paper.specs.Record.{CED, Timing, size, aged}

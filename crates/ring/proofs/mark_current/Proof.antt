@@ -1,4 +1,4 @@
--- The part that is lent is the current row, and comes back marked.
+-- The slice that is lent is the current row, and comes back marked.
 use Prim.Native.Nat.{_+_, _≤_, _<_}
 use mathlib.Core.Path.{_∙_}
 use native.Mathlib.Omega.{arith}

@@ -1,4 +1,4 @@
--- `rows::row` meets its contract: the part that is handed out lies in a room whose header is in range, and is the paper's row.
+-- `rows::row` meets its contract: the slice that is handed out lies in a room whose header is in range, and is the paper's row.
 use native.Mathlib.Omega.{arith}
 use mathlib.Core.Path.{ap, _∙_}
 use lib.ListN.{length}

@@ -1,4 +1,4 @@
--- `store::slot_allowed` meets its contract: the lent parts are the slot's two records, each of its kind's length.
+-- `store::slot_allowed` meets its contract: the lent slices are the slot's two records, each of its family's length.
 use native.Mathlib.Omega.{arith}
 use borrow.Author.Needs.{needs}
 use mathlib.Core.List.{List}
@@ -15,7 +15,7 @@ use Rattle.paper.specs.Store.{slotAllowed}
 use Rattle.store.proofs.slot_allowed.Statement.{statement}
 use Rattle.store.proofs.slot_allowed.Tie as tie
 
--- a record of a slot is as long as its kind says
+-- a record of a slot is as long as its family says
 kind-long : (f : Family) (slot : List ℕ) → length slot ≡ slotSize → size f ≡ length (part (base f) (size f) slot)
 kind-long f slot e = sym (length-part (base f) (size f) slot (omega (arith, slot-fits f)))
 

@@ -1,4 +1,4 @@
--- The record is taken, then the part that the word owns is written.
+-- The record is taken, then the share that the word owns is written.
 use mathlib.Core.Path.{_∙_}
 use Rattle.paper.specs.Record.{Timing}
 use Rattle.paper.specs.Word.{fedRecord}

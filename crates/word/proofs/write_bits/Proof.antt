@@ -1,4 +1,4 @@
--- The data comes back from the move of bits as a changed part of the record; then the age, and the count by the flag.
+-- The data comes back from the move of bits as a changed slice of the record; then the age, and the count by the flag.
 use native.Mathlib.Omega.{arith}
 use mathlib.Core.Path.{_≡_, _∙_}
 use Prim.Native.Nat.{_-_}

@@ -1,4 +1,4 @@
--- `records::Timing::put_ages` meets its contract: the lent part comes back as the ages.
+-- `records::Timing::put_ages` meets its contract: the lent slice comes back as the ages.
 use mathlib.Core.Path.{refl}
 use Rattle.paper.specs.Record.{Timing, ages, agesAt}
 use Rattle.paper.proofs.Parts.{part-back}
