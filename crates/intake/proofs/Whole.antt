@@ -12,10 +12,10 @@ use lib.Seq.{take-append-le}
 use Rattle.paper.specs.Call.{run}
 use Rattle.text.proofs.Puts.{take-put}
 use Rattle.intake.specs.Input.{Item, Stage, going, ended, stageOf, itemsOf, itemsAtEnd, atStart, recordsOf, roomOf, linesOf, benchRoom, output}
-use Rattle.intake.specs.Reader.{stageIn, readerOf, readerBytes, endFits, itemsEnded, taken}
+use Rattle.intake.specs.Reader.{stageIn, readerOf, readerBytes, endFits, itemsEnded, partTaken}
 use Rattle.intake.proofs.Along.{stages, items, rooms, texts, items-ended, stages-ended}
 use Rattle.intake.proofs.State.{Proper, none-unfinished, of-proper, stage-back}
-use Rattle.intake.proofs.Taken.{taken-most}
+use Rattle.intake.proofs.Taken.{partTaken-most}
 use Rattle.intake.proofs.part.Reads as part
 use Rattle.intake.proofs.part.Kinds as part-kinds
 use Rattle.intake.proofs.end.Reads as end
@@ -76,7 +76,7 @@ Read traced (bytes ∷ parts) input reader room text room' = Next (Read traced p
 module _ (traced : Bool) (reader room bytes reader' room' : List ℕ) (took : ℕ) (said : List ℕ)
     (H : Heard traced reader room bytes reader' room' took said) where
   heard-took : took ≤ length bytes
-  heard-took = rw (← (H .count), ← (H .bytes-lent), H .post .0 .count) (taken-most _ _ _ _ _ _)
+  heard-took = rw (← (H .count), ← (H .bytes-lent), H .post .0 .count) (partTaken-most _ _ _ _ _ _)
 
   heard-reader : reader' ≡ readerOf (stageOf (stageIn reader) (take took bytes))
   heard-reader = rw (← (H .count), ← (H .bytes-lent), ← (H .reader-lent), ← (H .reader-left)) (H .post .1 .0)
