@@ -22,7 +22,8 @@ pub struct Closed {
     pub taken: bool,
     /// How many bytes of lines stand at the start of the output. Not more than it has.
     pub said: usize,
-    /// `Ok` where the input ended between items, or where its end was not taken, else why it has ended.
+    /// `Ok` where the input ends between items, else why it has ended. Inside an item it is [`Refusal::CutShort`], also where the end
+    /// was not taken.
     pub status: Result<(), Refusal>,
 }
 
@@ -67,7 +68,7 @@ impl Reader {
     }
 
     /// The reader that these bytes are, as [`Reader::state`] gave them. Any bytes are one: it keeps the beginning of an item, or nothing,
-    /// or has ended with some number.
+    /// or has ended with any number, 0 too, and takes and ignores all bytes of every part.
     pub const fn resume(state: [u8; READER_BYTES]) -> Reader {
         Reader { state }
     }
@@ -95,8 +96,9 @@ impl Reader {
         Heard { took: heard.took, said: heard.said, status: Refusal::check(heard.number) }
     }
 
-    /// The end of the input: [`Refusal::CutShort`] inside an item, with a line, and `Ok` between items. Where the input had ended
-    /// before, the status is that of its end, with no line.
+    /// The end of the input: [`Refusal::CutShort`] inside an item, with a line, and `Ok` between items. An `out` that is too short for
+    /// that line takes no end: the status is [`Refusal::CutShort`] then too, and the caller comes again with a longer one. Where the input
+    /// had ended before, the status is that of its end, with no line.
     pub fn end(&mut self, room: &[u8], out: &mut [u8]) -> Closed {
         let closed = unsafe { sys::dawnstook_end(self.state.as_mut_ptr(), room.as_ptr(), room.len(), out.as_mut_ptr(), out.len()) };
         if closed.said > out.len() {
@@ -127,9 +129,8 @@ impl Reader {
         let mut out = [0; LONGEST_LINE];
         let closed = self.end(room, &mut out);
         hand(&out, closed.said, &mut line);
-        closed.status?;
         if closed.taken {
-            Ok(())
+            closed.status
         } else {
             Err(Refusal::Unlisted(0))
         }

@@ -4,7 +4,7 @@ use core::fmt;
 macro_rules! refusals {
     ($($name:ident = $number:literal: $text:literal,)*) => {
         /// Why a call refused. A call of a [`crate::Store`] that refuses changes no byte of the room, and one of a message no byte of its
-        /// buffer; with `UnknownKind` and `CutShort` a [`crate::Reader`] says why its input has ended.
+        /// buffer; with `UnknownKind` and `CutShort` a [`crate::Reader`] says how its input ends.
         #[derive(Clone, Copy, Debug, PartialEq, Eq, Hash)]
         pub enum Refusal {
             $(

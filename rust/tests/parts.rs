@@ -205,9 +205,11 @@ fn fourteen_at_the_end_alone() {
         let expected = if inside { Err(Refusal::CutShort) } else { Ok(()) };
         if inside {
             for short in [0, 4, LONGEST_LINE - 1] {
-                let closed = run.reader.end(&run.room, &mut vec![0; short]);
-                assert_eq!(closed, Closed { taken: false, said: 0, status: Ok(()) });
+                let mut out = vec![b'?'; short];
+                let closed = run.reader.end(&run.room, &mut out);
+                assert_eq!(closed, Closed { taken: false, said: 0, status: Err(Refusal::CutShort) });
                 assert_eq!(run, before, "an end that is not taken changes nothing");
+                assert!(out.iter().all(|byte| *byte == b'?'), "and writes nothing");
             }
         } else {
             let closed = run.clone().reader.end(&run.room, &mut []);

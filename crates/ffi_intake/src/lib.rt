@@ -6,7 +6,7 @@ ghost use mathlib.Core.Bool.{false};
 ghost use lib.ListN.{take};
 ghost use Rattle.text.specs.Text.{Put};
 ghost use Rattle.intake.specs.Input.{stageOf, linesOf};
-ghost use Rattle.intake.specs.Reader.{stageIn, readerOf, numberOf, Took, endFits, stageEnded, itemsEnded};
+ghost use Rattle.intake.specs.Reader.{stageIn, readerOf, stageNumber, Took, endFits, stageEnded, itemsEnded, numberAtEnd};
 use intake::Closed;
 use intake::Heard;
 use intake::READER;
@@ -22,7 +22,7 @@ pub extern "C" fn dawnstook_part(
     ensures { λ r. ⌜ Took false (stageIn (now (reader .entry))) (now (bytes .entry)) (now (room .entry)) (now (out .entry))
         (now (room .exit)) (now (out .exit)) (r .took) (r .said) ⌝ }
     ensures { λ r. ⌜ now (reader .exit) ≡ readerOf (stageOf (stageIn (now (reader .entry))) (take (r .took) (now (bytes .entry)))) ⌝ }
-    ensures { λ r. ⌜ r .number ≡ numberOf (stageOf (stageIn (now (reader .entry))) (take (r .took) (now (bytes .entry)))) ⌝ }
+    ensures { λ r. ⌜ r .number ≡ stageNumber (stageOf (stageIn (now (reader .entry))) (take (r .took) (now (bytes .entry)))) ⌝ }
 {
     intake::part(reader, room, bytes, out, false)
 }
@@ -31,7 +31,7 @@ pub extern "C" fn dawnstook_part(
 #[no_mangle]
 pub extern "C" fn dawnstook_end(reader: &mut [u8; READER], room: &[u8], out: &mut [u8]) -> Closed
     ensures { λ r. ⌜ now (reader .exit) ≡ readerOf (stageEnded false (now (out .entry)) (stageIn (now (reader .entry)))) ⌝ }
-    ensures { λ r. ⌜ (r .number ≡ numberOf (stageEnded false (now (out .entry)) (stageIn (now (reader .entry)))))
+    ensures { λ r. ⌜ (r .number ≡ numberAtEnd (stageIn (now (reader .entry))))
         × (r .taken ≡ endFits false (now (out .entry)) (stageIn (now (reader .entry)))) ⌝ }
     ensures { λ r. ⌜ Put (now (out .entry)) 0
         (linesOf false (now (room .entry)) (itemsEnded false (now (out .entry)) (stageIn (now (reader .entry)))))

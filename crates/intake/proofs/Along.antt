@@ -7,7 +7,7 @@ use Prim.Native.Nat.{ℕ, suc, _+_}
 use lib.ListN.{length}
 use Rattle.paper.specs.Number.{Answer}
 use Rattle.intake.specs.Input.{Item, Stage, ended, stageAfter, itemsWith, stageOf, itemsOf, itemRoom, itemAnswer, linesFor, roomOf, linesOf, answersOf}
-use Rattle.intake.specs.Reader.{taken}
+use Rattle.intake.specs.Reader.{partTaken}
 
 -- ---- two pieces
 pub stages : (s : Stage) (a b : List ℕ) → stageOf s (a ++ b) ≡ stageOf (stageOf s a) b
@@ -59,7 +59,7 @@ unfolding itemsOf itemsWith stageAfter
 items-ended k [] = refl
 items-ended k (b ∷ l) = items-ended k l
 
-pub taken-ended : (traced : Bool) (limit said : ℕ) (room : List ℕ) (k : ℕ) (l : List ℕ) → taken traced limit said room (ended k) l ≡ length l
-unfolding taken itemsWith stageAfter roomOf linesOf
-taken-ended traced limit said room k [] = refl
-taken-ended traced limit said room k (b ∷ l) = ap suc (taken-ended traced limit (said + 0) room k l)
+pub partTaken-ended : (traced : Bool) (limit said : ℕ) (room : List ℕ) (k : ℕ) (l : List ℕ) → partTaken traced limit said room (ended k) l ≡ length l
+unfolding partTaken itemsWith stageAfter roomOf linesOf
+partTaken-ended traced limit said room k [] = refl
+partTaken-ended traced limit said room k (b ∷ l) = ap suc (partTaken-ended traced limit (said + 0) room k l)

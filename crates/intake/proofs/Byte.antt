@@ -17,7 +17,7 @@ use Rattle.lines.specs.Kinds.{kindOf, bodyLength, longestRecord}
 use Rattle.lines.proofs.Longest.{body-within}
 use Rattle.benchlines.specs.Records.{recordRoom}
 use Rattle.intake.specs.Input.{Stage, going, whole, behind, stageAfter, itemsWith, mostFor, linesFor, roomOf, linesOf}
-use Rattle.intake.specs.Reader.{Stepped, Keeps}
+use Rattle.intake.specs.Reader.{Stepped, NotWhole}
 
 module _ (traced : Bool) (room kept : List ℕ) (have b : ℕ) (out : List ℕ) (at : ℕ) (fits : have < length kept) where
   so-far : take have kept ++ (b ∷ []) ≡ take (have + 1) (set kept have b)
@@ -97,11 +97,11 @@ module _ (traced : Bool) (room kept : List ℕ) (have b : ℕ) (out : List ℕ) 
         }
 
 -- what is kept of a record lies within its buffer, with room for a byte
-pub keeps-within : (kept : List ℕ) (have : ℕ) → Keeps kept have → have < length kept
-keeps-within kept have k = omega (arith, k .size, k .within, body-within (kindOf (getD kept 0 0)))
+pub notWhole-within : (kept : List ℕ) (have : ℕ) → NotWhole kept have → have < length kept
+notWhole-within kept have k = omega (arith, k .size, k .within, body-within (kindOf (getD kept 0 0)))
 
-pub keeps-short : (kept : List ℕ) (have : ℕ) → Keeps kept have → have < longestRecord
-keeps-short kept have k = omega (arith, k .within, body-within (kindOf (getD kept 0 0)))
+pub notWhole-short : (kept : List ℕ) (have : ℕ) → NotWhole kept have → have < longestRecord
+notWhole-short kept have k = omega (arith, k .within, body-within (kindOf (getD kept 0 0)))
 
 -- a byte behind others does not change their kind
 pub within-still :

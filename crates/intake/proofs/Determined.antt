@@ -12,7 +12,7 @@ use Rattle.text.proofs.Puts.{put-one}
 use Rattle.intake.specs.declared.Heard.{Heard}
 use Rattle.intake.specs.declared.Closed.{Closed}
 use Rattle.intake.specs.Input.{Stage, stageOf, itemsOf, roomOf}
-use Rattle.intake.specs.Reader.{readerOf, numberOf, Took}
+use Rattle.intake.specs.Reader.{readerOf, stageNumber, Took}
 use Rattle.intake.proofs.part.Reads as part-reads
 use Rattle.intake.proofs.part.Kinds as part-kinds
 use Rattle.intake.proofs.end.Reads as end-reads
@@ -35,12 +35,12 @@ pub part-one :
     {traced : Bool} {s : Stage} {bytes room out room' room'' out' out'' reader' reader'' : List ℕ} (r r' : Heard)
     → Took traced s bytes room out room' out' (r .took) (r .said) → Took traced s bytes room out room'' out'' (r' .took) (r' .said)
     → reader' ≡ readerOf (stageOf s (take (r .took) bytes)) → reader'' ≡ readerOf (stageOf s (take (r' .took) bytes))
-    → r .number ≡ numberOf (stageOf s (take (r .took) bytes)) → r' .number ≡ numberOf (stageOf s (take (r' .took) bytes))
+    → r .number ≡ stageNumber (stageOf s (take (r .took) bytes)) → r' .number ≡ stageNumber (stageOf s (take (r' .took) bytes))
     → (r ≡ r') × ((reader' ≡ reader'') × ((room' ≡ room'') × (out' ≡ out'')))
 part-one {traced} {s} {bytes} {room} r r' p q pr qr pn qn =
     let t : r .took ≡ r' .took = p .count ∙ sym (q .count) in
     let lines = put-one (rw t at (p .lines)) (q .lines) in (
-      heard-one r r' (pn ∙ ap (λ (k : ℕ). numberOf (stageOf s (take k bytes))) t ∙ sym qn) t (lines .1),
+      heard-one r r' (pn ∙ ap (λ (k : ℕ). stageNumber (stageOf s (take k bytes))) t ∙ sym qn) t (lines .1),
       (
         pr ∙ ap (λ (k : ℕ). readerOf (stageOf s (take k bytes))) t ∙ sym qr,
         (p .leaves ∙ ap (λ (k : ℕ). roomOf room (itemsOf s (take k bytes))) t ∙ sym (q .leaves), lines .0),

@@ -1,12 +1,13 @@
 -- Records of small inputs, computed. Assumes nothing.
 use mathlib.Core.Path.{_≡_, refl}
+use mathlib.Core.Bool.{true, false}
 use mathlib.Core.List.{List, [], _∷_}
 use Prim.Native.Nat.{ℕ}
 use lib.ListN.{replicate}
 use Rattle.lines.specs.declared.Kind.the-variants.{Reset, Ced, Fresh, Unknown}
 use Rattle.lines.specs.Kinds.{kindOf}
 use Rattle.intake.specs.Input.{whole, cut, going, ended, stageAfter, itemsWith, stageOf, itemsOf, stageAtEnd, itemsAtEnd, atStart, recordsOf}
-use Rattle.intake.specs.Reader.{readerBytes, stageIn, readerOf}
+use Rattle.intake.specs.Reader.{readerBytes, stageIn, readerOf, endFits, stageEnded, itemsEnded, numberAtEnd}
 
 -- whole records, and the end inside one
 pub two-and-a-cut : recordsOf (3 ∷ 6 ∷ 2 ∷ 4 ∷ 1 ∷ []) ≡ whole Reset [] ∷ whole Fresh (2 ∷ 4 ∷ []) ∷ cut ∷ []
@@ -30,6 +31,17 @@ kind-waits = refl
 pub kind-cut : stageAtEnd (stageOf atStart (1 ∷ [])) ≡ ended 14
 unfolding stageOf stageAfter stageAtEnd kindOf
 kind-cut = refl
+
+-- an end there that does not fit: 14, not taken, the kind still kept and no line; then, with room for its line, 14, taken, and the line
+pub kind-cut-short : let s = stageOf atStart (1 ∷ []) in
+    (numberAtEnd s ≡ 14) × ((endFits false (replicate 188 0) s ≡ false) × ((stageEnded false (replicate 188 0) s ≡ s) × (itemsEnded false (replicate 188 0) s ≡ [])))
+unfolding stageOf stageAfter stageAtEnd itemsAtEnd endFits stageEnded itemsEnded kindOf
+kind-cut-short = (refl, (refl, (refl, refl)))
+
+pub kind-cut-then : let s = stageOf atStart (1 ∷ []) in
+    (numberAtEnd s ≡ 14) × ((endFits false (replicate 189 0) s ≡ true) × ((stageEnded false (replicate 189 0) s ≡ ended 14) × (itemsEnded false (replicate 189 0) s ≡ cut ∷ [])))
+unfolding stageOf stageAfter stageAtEnd itemsAtEnd endFits stageEnded itemsEnded kindOf
+kind-cut-then = (refl, (refl, (refl, refl)))
 
 -- no bytes are no part of a record and, at the end, a clean one
 pub nothing : recordsOf [] ≡ []

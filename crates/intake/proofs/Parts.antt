@@ -10,19 +10,19 @@ use lib.Seq.{take-suc, drop-cons, take-length}
 use Rattle.text.specs.Text.{Put}
 use Rattle.text.proofs.Puts.{length-putText, put-then, put-none}
 use Rattle.intake.specs.Input.{Item, Stage, ended, stageAfter, itemsWith, stageOf, itemsOf, roomOf, linesOf}
-use Rattle.intake.specs.Reader.{taken, Took, Stepped}
-use Rattle.intake.proofs.Along.{stages, items, rooms, texts, stages-one, items-one, stages-ended, items-ended, taken-ended}
+use Rattle.intake.specs.Reader.{partTaken, Took, Stepped}
+use Rattle.intake.proofs.Along.{stages, items, rooms, texts, stages-one, items-one, stages-ended, items-ended, partTaken-ended}
 
 -- after i bytes of a part: what is still taken from here, where the reader stands, the room and the lines
-pub record Sofar (traced : Bool) (s : Stage) (bytes room out : List ℕ) (i : ℕ) (s' : Stage) (room' out' : List ℕ) (said : ℕ) : Type 0 where
-  pub rest : taken traced (length out) 0 room s bytes ≡ i + taken traced (length out) said room' s' (drop i bytes)
+pub record PartSofar (traced : Bool) (s : Stage) (bytes room out : List ℕ) (i : ℕ) (s' : Stage) (room' out' : List ℕ) (said : ℕ) : Type 0 where
+  pub rest : partTaken traced (length out) 0 room s bytes ≡ i + partTaken traced (length out) said room' s' (drop i bytes)
   pub stands : s' ≡ stageOf s (take i bytes)
   pub leaves : room' ≡ roomOf room (itemsOf s (take i bytes))
   pub lines : Put out 0 (linesOf traced room (itemsOf s (take i bytes))) out' said
 
-pub begun : (traced : Bool) (s : Stage) (bytes room out : List ℕ) → Sofar traced s bytes room out 0 s room out 0
+pub part-begun : (traced : Bool) (s : Stage) (bytes room out : List ℕ) → PartSofar traced s bytes room out 0 s room out 0
 unfolding stageOf itemsOf roomOf linesOf
-begun traced s bytes room out =
+part-begun traced s bytes room out =
     record { rest = omega arith; stands = refl; leaves = refl; lines = put-none out 0 (omega arith) }
 
 length-kept : {s s' t : List ℕ} {at r : ℕ} → Put s at t s' r → length s' ≡ length s
@@ -33,20 +33,20 @@ pub took-ended : (traced : Bool) (k : ℕ) (bytes room out : List ℕ) → Took 
 unfolding roomOf linesOf
 took-ended traced k bytes room out =
     record {
-      count = sym (taken-ended traced (length out) 0 room k bytes);
+      count = sym (partTaken-ended traced (length out) 0 room k bytes);
       leaves = rw (items-ended k (take (length bytes) bytes)) refl;
       lines = rw (items-ended k (take (length bytes) bytes)) (put-none out 0 (omega arith));
     }
 
 module _ (traced : Bool) (s : Stage) (bytes room out : List ℕ) (i : ℕ) (s' : Stage) (room' out' : List ℕ) (said : ℕ)
-    (before : Sofar traced s bytes room out i s' room' out' said) where
+    (before : PartSofar traced s bytes room out i s' room' out' said) where
   -- one byte more
-  pub one-more :
+  pub byte-more :
       (s'' : Stage) (room'' out'' : List ℕ) (said'' : ℕ) → i < length bytes
       → Stepped traced s' (getD bytes i 0) room' out' said s'' room'' out'' said'' false
-      → Sofar traced s bytes room out (i + 1) s'' room'' out'' said''
-  unfolding taken
-  one-more s'' room'' out'' said'' h t =
+      → PartSofar traced s bytes room out (i + 1) s'' room'' out'' said''
+  unfolding partTaken
+  byte-more s'' room'' out'' said'' h t =
       record {
         rest = before .rest ∙ ap (λ (k : ℕ). i + k) (later) ∙ omega arith;
         stands = t .stands ∙ ap (λ (x : Stage). stageAfter x b) (before .stands) ∙ sym (stages-one s (take i bytes) b) ∙ ap (stageOf s) front;
@@ -72,7 +72,7 @@ module _ (traced : Bool) (s : Stage) (bytes room out : List ℕ) (i : ℕ) (s' :
           ∙ sym (rooms room (itemsOf s (take i bytes)) (itemsWith (stageOf s (take i bytes)) b))
           ∙ ap (roomOf room) (sym (items-one s (take i bytes) b))
 
-      later : taken traced (length out) said room' s' (drop i bytes) ≡ suc (taken traced (length out) said'' room'' s'' (drop (i + 1) bytes))
+      later : partTaken traced (length out) said room' s' (drop i bytes) ≡ suc (partTaken traced (length out) said'' room'' s'' (drop (i + 1) bytes))
       later =
           rw (add-one i, drop-cons bytes i 0 h, ← length-kept (before .lines), ← (t .stops), t .stands, t .leaves, t .lines .place) refl
 
@@ -81,7 +81,7 @@ module _ (traced : Bool) (s : Stage) (bytes room out : List ℕ) (i : ℕ) (s' :
       (s'' : Stage) (room'' out'' : List ℕ) (said'' : ℕ) → i < length bytes
       → Stepped traced s' (getD bytes i 0) room' out' said s'' room'' out'' said'' true
       → Took traced s bytes room out room'' out'' i said'' × (s'' ≡ stageOf s (take i bytes))
-  unfolding taken roomOf linesOf
+  unfolding partTaken roomOf linesOf
   stops-full s'' room'' out'' said'' h t = (
     record {
       count = sym (before .rest ∙ ap (λ (k : ℕ). i + k) none ∙ omega arith);
@@ -91,12 +91,12 @@ module _ (traced : Bool) (s : Stage) (bytes room out : List ℕ) (i : ℕ) (s' :
     t .stands ∙ before .stands,
   )
     where
-      none : taken traced (length out) said room' s' (drop i bytes) ≡ 0
+      none : partTaken traced (length out) said room' s' (drop i bytes) ≡ 0
       none = rw (drop-cons bytes i 0 h, ← length-kept (before .lines), ← (t .stops)) refl
 
   -- all bytes are taken
   pub stops-done : length bytes ≤ i → Took traced s bytes room out room' out' i said
-  unfolding taken
+  unfolding partTaken
   stops-done h =
       record {
         count = sym (before .rest ∙ ap (λ (k : ℕ). i + k) none ∙ omega arith);
@@ -104,7 +104,7 @@ module _ (traced : Bool) (s : Stage) (bytes room out : List ℕ) (i : ℕ) (s' :
         lines = before .lines;
       }
     where
-      none : taken traced (length out) said room' s' (drop i bytes) ≡ 0
+      none : partTaken traced (length out) said room' s' (drop i bytes) ≡ 0
       none = rw (drop-of-length-le bytes {i = i} h) refl
 
   -- the input has ended
@@ -125,8 +125,8 @@ module _ (traced : Bool) (s : Stage) (bytes room out : List ℕ) (i : ℕ) (s' :
     stops-ended = (
       record {
         count =
-            sym (before .rest ∙ ap (λ (x : Stage). i + taken traced (length out) said room' x (drop i bytes)) e
-            ∙ ap (λ (n : ℕ). i + n) (taken-ended traced (length out) said room' k (drop i bytes) ∙ length-drop i bytes)
+            sym (before .rest ∙ ap (λ (x : Stage). i + partTaken traced (length out) said room' x (drop i bytes)) e
+            ∙ ap (λ (n : ℕ). i + n) (partTaken-ended traced (length out) said room' k (drop i bytes) ∙ length-drop i bytes)
             ∙ omega arith);
         leaves = rw same-items (before .leaves);
         lines = rw same-items (before .lines);

@@ -1,7 +1,7 @@
 -- How much of a part is taken: never more than it has, and something of one that has bytes where the output takes the longest lines. The
--- end inside a record is taken where its line fits. Assumes nothing.
+-- end inside a record is 14, and taken where its line fits. Assumes nothing.
 use native.Mathlib.Omega.{arith}
-use mathlib.Core.Path.{_≡_, refl}
+use mathlib.Core.Path.{_≡_, refl, ap}
 use mathlib.Core.Bool.{Bool, true, false, cond}
 use mathlib.Core.List.{List, [], _∷_}
 use Prim.Native.Nat.{ℕ, suc, _+_, _≤_, _<_}
@@ -9,24 +9,24 @@ use lib.ListN.{length}
 use borrow.Author.Tests.{lt-ltb, le-ltb}
 use Rattle.lines.specs.Lines.{longestLine}
 use Rattle.intake.specs.Input.{Item, cut, Stage, going, ended, stageAfter, itemsWith, cutShort, stageAtEnd, itemsAtEnd, mostFor, roomOf, linesOf}
-use Rattle.intake.specs.Reader.{full, taken, endFits, stageEnded, itemsEnded}
+use Rattle.intake.specs.Reader.{full, partTaken, endFits, stageEnded, itemsEnded, stageNumber, numberAtEnd}
 
 one-or-none : (b : Bool) (later n : ℕ) → later ≤ n → cond b 0 (suc later) ≤ suc n
 one-or-none true later n h = omega arith
 one-or-none false later n h = omega arith
 
-pub taken-most : (traced : Bool) (limit said : ℕ) (room : List ℕ) (s : Stage) (l : List ℕ) → taken traced limit said room s l ≤ length l
-unfolding taken
-taken-most traced limit said room s [] = omega arith
-taken-most traced limit said room s (b ∷ l) =
+pub partTaken-most : (traced : Bool) (limit said : ℕ) (room : List ℕ) (s : Stage) (l : List ℕ) → partTaken traced limit said room s l ≤ length l
+unfolding partTaken
+partTaken-most traced limit said room s [] = omega arith
+partTaken-most traced limit said room s (b ∷ l) =
     let items : List Item = itemsWith s b in
-    one-or-none (full traced limit said items) _ (length l) (taken-most traced limit (said + length (linesOf traced room items)) (roomOf room items) (stageAfter s b) l)
+    one-or-none (full traced limit said items) _ (length l) (partTaken-most traced limit (said + length (linesOf traced room items)) (roomOf room items) (stageAfter s b) l)
 
 -- nothing is written yet, and the longest lines fit
-pub taken-some : (traced : Bool) (limit : ℕ) (room : List ℕ) (s : Stage) (l : List ℕ) → mostFor traced ≤ limit → 0 < length l → 0 < taken traced limit 0 room s l
-unfolding taken
-taken-some traced limit room s [] h n = omega arith
-taken-some traced limit room s (b ∷ l) h n = rw (not-full (itemsWith s b)) (omega arith)
+pub partTaken-some : (traced : Bool) (limit : ℕ) (room : List ℕ) (s : Stage) (l : List ℕ) → mostFor traced ≤ limit → 0 < length l → 0 < partTaken traced limit 0 room s l
+unfolding partTaken
+partTaken-some traced limit room s [] h n = omega arith
+partTaken-some traced limit room s (b ∷ l) h n = rw (not-full (itemsWith s b)) (omega arith)
   where
     not-full : (items : List Item) → full traced limit 0 items ≡ false
     not-full [] = refl
@@ -49,6 +49,10 @@ module _ (traced : Bool) (out kept : List ℕ) (some : length kept ≡ 0 → ⊥
   stage-cut [] h = absurd (h refl)
   stage-cut (b ∷ l) h = refl
 
+  -- its number, whether its line fits or not
+  number-cut : numberAtEnd (going kept) ≡ cutShort
+  number-cut = ap stageNumber (stage-cut kept some)
+
   -- its line might not fit
   short-fits : length out < mostFor traced → endFits traced out (going kept) ≡ false
   unfolding endFits
@@ -56,9 +60,10 @@ module _ (traced : Bool) (out kept : List ℕ) (some : length kept ≡ 0 → ⊥
 
   pub end-short :
       length out < mostFor traced
-      → (endFits traced out (going kept) ≡ false) × ((stageEnded traced out (going kept) ≡ going kept) × (itemsEnded traced out (going kept) ≡ []))
+      → (endFits traced out (going kept) ≡ false)
+      × ((stageEnded traced out (going kept) ≡ going kept) × ((itemsEnded traced out (going kept) ≡ []) × (numberAtEnd (going kept) ≡ cutShort)))
   unfolding stageEnded itemsEnded
-  end-short h = (short-fits h, (rw (short-fits h) refl, rw (short-fits h) refl))
+  end-short h = (short-fits h, (rw (short-fits h) refl, (rw (short-fits h) refl, number-cut)))
 
   -- it fits
   long-fits : mostFor traced ≤ length out → endFits traced out (going kept) ≡ true
@@ -67,6 +72,7 @@ module _ (traced : Bool) (out kept : List ℕ) (some : length kept ≡ 0 → ⊥
 
   pub end-long :
       mostFor traced ≤ length out
-      → (endFits traced out (going kept) ≡ true) × ((stageEnded traced out (going kept) ≡ ended cutShort) × (itemsEnded traced out (going kept) ≡ cut ∷ []))
+      → (endFits traced out (going kept) ≡ true)
+      × ((stageEnded traced out (going kept) ≡ ended cutShort) × ((itemsEnded traced out (going kept) ≡ cut ∷ []) × (numberAtEnd (going kept) ≡ cutShort)))
   unfolding stageEnded itemsEnded
-  end-long h = (long-fits h, (rw (long-fits h) (stage-cut kept some), rw (long-fits h) (items-cut kept some)))
+  end-long h = (long-fits h, (rw (long-fits h) (stage-cut kept some), (rw (long-fits h) (items-cut kept some), number-cut)))

@@ -42,9 +42,9 @@ readerOf (going kept) = stateOf kept 0 0
 readerOf (ended k) = stateOf [] 1 k
 
 -- its number: 0 while it goes on
-abbrev pub numberOf : Stage → ℕ
-numberOf (going kept) = 0
-numberOf (ended k) = k
+abbrev pub stageNumber : Stage → ℕ
+stageNumber (going kept) = 0
+stageNumber (ended k) = k
 
 -- ---- an output of so many bytes, of which so many are written
 -- the byte makes a record whole, and what it prints might not fit
@@ -56,16 +56,16 @@ abbrev pub full : Bool → ℕ → ℕ → List Item → Bool
 full traced limit said items = any items && ltb limit (said + mostFor traced)
 
 -- how many bytes of a part are taken: all of them, or those before the byte that would make such a record whole
-unfoldable pub taken : Bool → ℕ → ℕ → List ℕ → Stage → List ℕ → ℕ
-taken traced limit said room s [] = 0
-taken traced limit said room s (b ∷ l) =
+unfoldable pub partTaken : Bool → ℕ → ℕ → List ℕ → Stage → List ℕ → ℕ
+partTaken traced limit said room s [] = 0
+partTaken traced limit said room s (b ∷ l) =
     let items = itemsWith s b in
-    let later = taken traced limit (said + length (linesOf traced room items)) (roomOf room items) (stageAfter s b) l in
+    let later = partTaken traced limit (said + length (linesOf traced room items)) (roomOf room items) (stageAfter s b) l in
     cond (full traced limit said items) 0 (suc later)
 
 -- what a part leaves: how many of its bytes were taken, the room, and the lines in the output
 pub record Took (traced : Bool) (s : Stage) (bytes room out room' out' : List ℕ) (took said : ℕ) : Type 0 where
-  pub count : took ≡ taken traced (length out) 0 room s bytes
+  pub count : took ≡ partTaken traced (length out) 0 room s bytes
   pub leaves : room' ≡ roomOf room (itemsOf s (take took bytes))
   pub lines : Put out 0 (linesOf traced room (itemsOf s (take took bytes))) out' said
 
@@ -79,6 +79,10 @@ stageEnded traced out s = cond (endFits traced out s) (stageAtEnd s) s
 unfoldable pub itemsEnded : Bool → List ℕ → Stage → List Item
 itemsEnded traced out s = cond (endFits traced out s) (itemsAtEnd s) []
 
+-- its number, taken or not: that of where the reader stands at the end of the input
+abbrev pub numberAtEnd : Stage → ℕ
+numberAtEnd s = stageNumber (stageAtEnd s)
+
 -- ---- while a part is taken: where the reader stands by its buffer, and that what is kept is not a whole record
 abbrev pub standing : List ℕ → ℕ → Bool → Stage
 standing kept have stopped = cond stopped (ended unknownKind) (going (take have kept))
@@ -90,6 +94,6 @@ pub record Stepped (traced : Bool) (s : Stage) (b : ℕ) (room out : List ℕ) (
   pub leaves : room' ≡ roomOf room (cond stop [] (itemsWith s b))
   pub lines : Put out at (linesOf traced room (cond stop [] (itemsWith s b))) out' said
 
-pub record Keeps (kept : List ℕ) (have : ℕ) : Type 0 where
+pub record NotWhole (kept : List ℕ) (have : ℕ) : Type 0 where
   pub size : length kept ≡ readerBytes
   pub within : have ≤ bodyLength (kindOf (getD kept 0 0))

@@ -19,8 +19,8 @@ ghost use Rattle.lines.specs.Kinds.{kindOf, bodyLength, longestRecord};
 ghost use Rattle.benchlines.specs.Records.{recordRoom, unknownKind};
 ghost use Rattle.intake.specs.Input.{going, ended, whole, cut, behind, stageOf};
 ghost use Rattle.intake.specs.Input.{traceLine, traceBytes, mostFor, linesFor, linesOf};
-ghost use Rattle.intake.specs.Reader.{readerBytes, haveAt, keptIn, stageIn, stateOf, readerOf, numberOf, full};
-ghost use Rattle.intake.specs.Reader.{Took, Stepped, endFits, stageEnded, itemsEnded, standing, Keeps};
+ghost use Rattle.intake.specs.Reader.{readerBytes, haveAt, keptIn, stageIn, stateOf, readerOf, stageNumber, full};
+ghost use Rattle.intake.specs.Reader.{Took, Stepped, endFits, stageEnded, itemsEnded, numberAtEnd, standing, NotWhole};
 
 // the state: room for a record, how many bytes of it are kept, whether the input has ended, and its number
 const HAVE_AT: usize = LONGEST_RECORD;
@@ -45,7 +45,7 @@ pub struct Heard {
     pub said: usize,
 }
 
-// What the end came to: the reader's number, whether the end was taken, and how many bytes of lines were written.
+// What the end came to: the number of an input that ends here, whether the end was taken, and how many bytes of lines were written.
 #[repr(C)]
 pub struct Closed {
     pub number: u8,
@@ -154,10 +154,10 @@ fn take_byte(
     at: usize,
     traced: bool,
 ) -> Step
-    requires { ⌜ (Keeps (now kept) have) × (at ≤ length (now out)) ⌝ }
+    requires { ⌜ (NotWhole (now kept) have) × (at ≤ length (now out)) ⌝ }
     ensures { λ r. ⌜ Stepped traced (going (take have (now (kept .entry)))) byte (now (room .entry)) (now (out .entry)) at
         (standing (now (kept .exit)) (r .have) (r .ended)) (now (room .exit)) (now (out .exit)) (r .said) (r .full) ⌝ }
-    ensures { λ r. ⌜ Keeps (now (kept .exit)) (r .have) ⌝ }
+    ensures { λ r. ⌜ NotWhole (now (kept .exit)) (r .have) ⌝ }
 {
     kept[have] = byte;
     let kind = Kind::of(kept[0]);
@@ -196,12 +196,12 @@ fn take_bytes(
     out: &mut [u8],
     traced: bool,
 ) -> Progress
-    requires { ⌜ Keeps (now kept) have ⌝ }
+    requires { ⌜ NotWhole (now kept) have ⌝ }
     ensures { λ r. ⌜ Took traced (going (take have (now (kept .entry)))) (now (bytes .entry)) (now (room .entry)) (now (out .entry))
         (now (room .exit)) (now (out .exit)) (r .took) (r .said) ⌝ }
     ensures { λ r. ⌜ standing (now (kept .exit)) (r .have) (r .stopped)
         ≡ stageOf (going (take have (now (kept .entry)))) (take (r .took) (now (bytes .entry))) ⌝ }
-    ensures { λ r. ⌜ Keeps (now (kept .exit)) (r .have) ⌝ }
+    ensures { λ r. ⌜ NotWhole (now (kept .exit)) (r .have) ⌝ }
 {
     let mut count = have;
     let mut said = 0;
@@ -285,7 +285,7 @@ pub fn part(
     ensures { λ r. ⌜ Took traced (stageIn (now (reader .entry))) (now (bytes .entry)) (now (room .entry)) (now (out .entry))
         (now (room .exit)) (now (out .exit)) (r .took) (r .said) ⌝ }
     ensures { λ r. ⌜ now (reader .exit) ≡ readerOf (stageOf (stageIn (now (reader .entry))) (take (r .took) (now (bytes .entry)))) ⌝ }
-    ensures { λ r. ⌜ r .number ≡ numberOf (stageOf (stageIn (now (reader .entry))) (take (r .took) (now (bytes .entry)))) ⌝ }
+    ensures { λ r. ⌜ r .number ≡ stageNumber (stageOf (stageIn (now (reader .entry))) (take (r .took) (now (bytes .entry)))) ⌝ }
 {
     if reader[ENDED_AT] != 0 {
         let number = reader[NUMBER_AT];
@@ -316,10 +316,10 @@ pub fn part(
     }
 }
 
-// The end of the input. Where a record is unfinished it prints a line, and is not taken while that might not fit.
+// The end of the input. Where a record is unfinished it is 14 and prints a line; while that might not fit it is not taken, and 14 too.
 pub fn end(reader: &mut [u8; READER], room: &[u8], out: &mut [u8], traced: bool) -> Closed
     ensures { λ r. ⌜ now (reader .exit) ≡ readerOf (stageEnded traced (now (out .entry)) (stageIn (now (reader .entry)))) ⌝ }
-    ensures { λ r. ⌜ (r .number ≡ numberOf (stageEnded traced (now (out .entry)) (stageIn (now (reader .entry)))))
+    ensures { λ r. ⌜ (r .number ≡ numberAtEnd (stageIn (now (reader .entry))))
         × (r .taken ≡ endFits traced (now (out .entry)) (stageIn (now (reader .entry)))) ⌝ }
     ensures { λ r. ⌜ Put (now (out .entry)) 0
         (linesOf traced (now (room .entry)) (itemsEnded traced (now (out .entry)) (stageIn (now (reader .entry)))))
@@ -347,7 +347,7 @@ pub fn end(reader: &mut [u8; READER], room: &[u8], out: &mut [u8], traced: bool)
     if out.len() < most(traced) {
         keep(reader, have, 0, 0);
         return Closed {
-            number: 0,
+            number: CUT_SHORT,
             taken: false,
             said: 0,
         };

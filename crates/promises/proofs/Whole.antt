@@ -9,10 +9,10 @@ use lib.Seq.{take-append-le}
 use Rattle.paper.specs.Call.{run}
 use Rattle.text.proofs.Puts.{take-put}
 use Rattle.intake.specs.Input.{Item, Stage, going, ended, stageOf, itemsOf, itemsAtEnd, atStart, recordsOf, roomOf, linesOf, benchRoom, output}
-use Rattle.intake.specs.Reader.{stageIn, readerOf, readerBytes, endFits, itemsEnded, taken}
+use Rattle.intake.specs.Reader.{stageIn, readerOf, readerBytes, endFits, itemsEnded}
 use Rattle.intake.proofs.Along.{stages, items, rooms, texts, items-ended, stages-ended}
 use Rattle.intake.proofs.State.{Proper, none-unfinished, of-proper, stage-back}
-use Rattle.intake.proofs.Taken.{taken-most}
+use Rattle.intake.proofs.Taken.{partTaken-most}
 use Rattle.promises.specs.Outcomes.{PartRan, EndRan}
 use Rattle.promises.specs.Inputs.{PartLent, readerLeft, roomLeft, partSaid, EndLent, endSaid, PartRead, Read}
 use Rattle.promises.specs.Statements.{ReadInParts, PrintedIsOutput}
@@ -24,7 +24,7 @@ module _ (o : PartRan) (traced : Bool) (reader room bytes : List ℕ) (L : PartL
   heard = take (o .answer .took) bytes
 
   took-most : o .answer .took ≤ length bytes
-  took-most = rw (← (L .bytes-are), o .permitted .0 .count) (taken-most _ _ _ _ _ _)
+  took-most = rw (← (L .bytes-are), o .permitted .0 .count) (partTaken-most _ _ _ _ _ _)
 
   leaves-reader : readerLeft o ≡ readerOf (stageOf (stageIn reader) heard)
   leaves-reader = rw (← (L .bytes-are), ← (L .reader-is)) (o .permitted .1 .0)

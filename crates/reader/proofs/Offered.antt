@@ -12,7 +12,7 @@ use Rattle.intake.specs.Input.{Stage, stageOf, itemsOf, roomOf, traceBytes, mos
 use Rattle.intake.specs.Reader.{stageIn, readerOf, Took}
 use Rattle.intake.proofs.Along.{stages, items, rooms}
 use Rattle.intake.proofs.State.{of-proper, stage-proper, stage-back}
-use Rattle.intake.proofs.Taken.{taken-most, taken-some}
+use Rattle.intake.proofs.Taken.{partTaken-most, partTaken-some}
 
 -- the rest of what was read
 pub rest-is : (bytes : List ℕ) (at : ℕ) → take (length bytes - at) (drop at bytes) ≡ drop at bytes
@@ -23,16 +23,16 @@ most-fits true = omega arith
 most-fits false = omega arith
 
 -- so far: the reader stands, and the room is, as after the first bytes of what was read
-pub record Sofar (reader₀ room₀ bytes reader room : List ℕ) (at : ℕ) : Type 0 where
+pub record OfferSofar (reader₀ room₀ bytes reader room : List ℕ) (at : ℕ) : Type 0 where
   pub within : at ≤ length bytes
   pub stands : stageIn reader ≡ stageOf (stageIn reader₀) (take at bytes)
   pub leaves : room ≡ roomOf room₀ (itemsOf (stageIn reader₀) (take at bytes))
 
-pub begun : (reader room bytes : List ℕ) → Sofar reader room bytes reader room 0
+pub offer-begun : (reader room bytes : List ℕ) → OfferSofar reader room bytes reader room 0
 unfolding stageOf itemsOf roomOf
-begun reader room bytes = record { within = omega arith; stands = refl; leaves = refl }
+offer-begun reader room bytes = record { within = omega arith; stands = refl; leaves = refl }
 
-module _ (reader₀ room₀ bytes reader room : List ℕ) (at : ℕ) (before : Sofar reader₀ room₀ bytes reader room at)
+module _ (reader₀ room₀ bytes reader room : List ℕ) (at : ℕ) (before : OfferSofar reader₀ room₀ bytes reader room at)
     (traced : Bool) (out reader' room' out' : List ℕ) (took said : ℕ)
     (t : Took traced (stageIn reader) (take (length bytes - at) (drop at bytes)) room out room' out' took said) where
   few : took ≤ length bytes - at
@@ -40,7 +40,7 @@ module _ (reader₀ room₀ bytes reader room : List ℕ) (at : ℕ) (before : S
       omega (
         arith,
         t .count,
-        taken-most traced (length out) 0 room (stageIn reader) (take (length bytes - at) (drop at bytes)),
+        partTaken-most traced (length out) 0 room (stageIn reader) (take (length bytes - at) (drop at bytes)),
         ap length (rest-is bytes at),
         length-drop at bytes,
       )
@@ -55,14 +55,14 @@ module _ (reader₀ room₀ bytes reader room : List ℕ) (at : ℕ) (before : S
       omega (
         arith,
         t .count,
-        taken-some traced (length out) room (stageIn reader) (take (length bytes - at) (drop at bytes))
+        partTaken-some traced (length out) room (stageIn reader) (take (length bytes - at) (drop at bytes))
             (omega (arith, most-fits traced, long)) size,
       )
 
-  pub one-more :
+  pub offer-more :
       reader' ≡ readerOf (stageOf (stageIn reader) (take took (take (length bytes - at) (drop at bytes))))
-      → Sofar reader₀ room₀ bytes reader' room' (at + took)
-  one-more e =
+      → OfferSofar reader₀ room₀ bytes reader' room' (at + took)
+  offer-more e =
       record {
         within = fits;
         stands = stands;
@@ -94,7 +94,7 @@ module _ (reader₀ room₀ bytes reader room : List ℕ) (at : ℕ) (before : S
           (sym (rooms room₀ (itemsOf s (take at bytes)) (itemsOf (stageOf s (take at bytes)) piece)))
 
 -- all of it
-pub all-taken : (reader₀ room₀ bytes reader room : List ℕ) (at : ℕ) → Sofar reader₀ room₀ bytes reader room at → length bytes ≤ at
+pub all-taken : (reader₀ room₀ bytes reader room : List ℕ) (at : ℕ) → OfferSofar reader₀ room₀ bytes reader room at → length bytes ≤ at
     → (stageIn reader ≡ stageOf (stageIn reader₀) bytes) × (room ≡ roomOf room₀ (itemsOf (stageIn reader₀) bytes))
 all-taken reader₀ room₀ bytes reader room at S h =
     let whole = take-all at bytes h in

@@ -1,6 +1,6 @@
 -- `offer`: no more is taken than there is, and the lines lie within the output that was lent.
 use native.Mathlib.Omega.{arith}
-use Rattle.intake.proofs.Taken.{taken-most}
+use Rattle.intake.proofs.Taken.{partTaken-most}
 use borrow.Author.Needs.{needs}
 use Rattle.cuttings.proofs.offer.Statement.{statement}
 use Rattle.cuttings.proofs.offer.Tie as tie
@@ -32,7 +32,7 @@ same-length-2 c = search needs
 returns : tie.Need-returns
 returns c =
     let t = c .before .before .before .before .before .part .ensures .0 in
-    let few = taken-most _ _ _ _ _ _ in
+    let few = partTaken-most _ _ _ _ _ _ in
     (rw (t .count) few, omega (arith, t .lines .place, t .lines .fits))
 
 pub offer-spec : {M : Type 1} → statement M

@@ -66,7 +66,7 @@ returns-3 c =
     let size = length-take-le (have .result) (a .reader .now) (omega (arith, long, have .ensures .1, body-within (kindOf (getD (a .reader .now) 0 0)))) in
     let s = end-short (a .traced) (a .out .now) (take (have .result) (a .reader .now)) (λ e. c .before .before .before .before .if2 .left (sym size ∙ e)) in
     let short = s (rw (c .before .before .before .most .ensures) at (c .before .before .if3 .taken)) in
-    rw (is, short .1 .0, short .1 .1, short .0) (c .keep3 .ensures, ((refl, refl), put-none (a .out .now) 0 (omega arith)))
+    rw (is, short .1 .0, short .1 .1 .0, short .1 .1 .1, short .0) (c .keep3 .ensures, ((refl, refl), put-none (a .out .now) 0 (omega arith)))
 
 put-cut-requires : tie.Need-put-cut-requires
 put-cut-requires c κs = search needs
@@ -91,7 +91,7 @@ returns-4 c =
     let size = length-take-le (have .result) (a .reader .now) (omega (arith, long, have .ensures .1, body-within (kindOf (getD (a .reader .now) 0 0)))) in
     let s = end-long (a .traced) (a .out .now) (take (have .result) (a .reader .now)) (λ e. test .before .before .if2 .left (sym size ∙ e)) in
     let fits = s (rw (test .before .most .ensures) at (test .if3 .left)) in
-    rw (is, fits .1 .0, fits .1 .1, fits .0) (c .keep4 .ensures, ((refl, refl), rw (append-nil _) (lines .put-cut .ensures)))
+    rw (is, fits .1 .0, fits .1 .1 .0, fits .1 .1 .1, fits .0) (c .keep4 .ensures, ((refl, refl), rw (append-nil _) (lines .put-cut .ensures)))
 
 pub end-spec : {M : Type 1} → statement M
 end-spec =

@@ -2,7 +2,7 @@
 use mathlib.Core.Path.{refl}
 use Rattle.intake.specs.Reader.{readerOf}
 use Rattle.intake.proofs.Along.{stages-ended}
-use Rattle.intake.proofs.Byte.{keeps-short}
+use Rattle.intake.proofs.Byte.{notWhole-short}
 use Rattle.intake.proofs.Parts.{took-ended}
 use Rattle.intake.proofs.State.{stage-ended, stage-going}
 use borrow.Author.Needs.{needs}
@@ -55,7 +55,7 @@ returns-2 c =
 keep-requires-3 : tie.Need-keep-requires-3
 keep-requires-3 c κs =
     let t = c .before .before .before .before .before .before .take-bytes .ensures in
-    (t .1 .1 .size, keeps-short _ _ (t .1 .1))
+    (t .1 .1 .size, notWhole-short _ _ (t .1 .1))
 
 same-length-3 : tie.Need-same-length-3
 same-length-3 c = search needs

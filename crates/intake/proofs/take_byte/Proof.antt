@@ -3,7 +3,7 @@ use native.Mathlib.Omega.{arith}
 use mathlib.Core.Path.{_∙_}
 use lib.ListN.{length-set}
 use lib.Seq.{take-set-le}
-use Rattle.intake.proofs.Byte.{step-part, step-full, step-whole, keeps-within, within-still, body-whole}
+use Rattle.intake.proofs.Byte.{step-part, step-full, step-whole, notWhole-within, within-still, body-whole}
 use borrow.Author.Needs.{needs}
 use Rattle.intake.proofs.take_byte.Statement.{statement}
 use Rattle.intake.proofs.take_byte.Tie as tie
@@ -11,7 +11,7 @@ use Rattle.intake.proofs.take_byte.Tie as tie
 slice-write-kept : tie.Need-slice-write-kept
 slice-write-kept c =
     let start = c .before .before .before in
-    omega (arith, start .pre .0 .size, keeps-within (start .args .kept .now) (start .args .have) (start .pre .0))
+    omega (arith, start .pre .0 .size, notWhole-within (start .args .kept .now) (start .args .have) (start .pre .0))
 
 slice-read-of : tie.Need-slice-read-of
 slice-read-of c = search needs
@@ -22,7 +22,7 @@ of-requires c κs = search needs
 add-end : tie.Need-add-end
 add-end c =
     let start = c .before .before .before .before .before in
-    omega (arith, start .pre .0 .size, keeps-within (start .args .kept .now) (start .args .have) (start .pre .0))
+    omega (arith, start .pre .0 .size, notWhole-within (start .args .kept .now) (start .args .have) (start .pre .0))
 
 body-requires : tie.Need-body-requires
 body-requires c κs = search needs
@@ -35,7 +35,7 @@ returns c =
     let start = c .before .before .before .before .before .before .before in
     let a = start .args in
     let kind = c .before .before .of in
-    let fits = keeps-within (a .kept .now) (a .have) (start .pre .0) in
+    let fits = notWhole-within (a .kept .now) (a .have) (start .pre .0) in
     let step = step-part (a .traced) (a .room .now) (a .kept .now) (a .have) (a .byte) (a .out .now) (a .at) fits (kind .result) (kind .ensures) in
     let few = rw (c .before .body .ensures) at (c .if1 .taken) in
     let long = length-set (a .kept .now) (a .have) (a .byte) ∙ start .pre .0 .size in
@@ -55,7 +55,7 @@ returns-2 c =
     let start = c .before .before .before .before .before .before .before .before .before in
     let a = start .args in
     let kind = c .before .before .before .before .of in
-    let fits = keeps-within (a .kept .now) (a .have) (start .pre .0) in
+    let fits = notWhole-within (a .kept .now) (a .have) (start .pre .0) in
     let step = step-full (a .traced) (a .room .now) (a .kept .now) (a .have) (a .byte) (a .out .now) (a .at) fits (kind .result) (kind .ensures) in
     let whole = rw (c .before .before .before .body .ensures) at (c .before .before .if1 .left) in
     let short = rw (c .before .most .ensures) at (c .if2 .taken) in
@@ -73,14 +73,14 @@ part-put-record-end : tie.Need-part-put-record-end
 part-put-record-end c =
     let start = c .before .before .before .before .before .before .before .before .before .before .before in
     let a = start .args in
-    simp length-set (omega (arith, keeps-within (a .kept .now) (a .have) (start .pre .0)))
+    simp length-set (omega (arith, notWhole-within (a .kept .now) (a .have) (start .pre .0)))
 
 put-record-requires : tie.Need-put-record-requires
 put-record-requires c κs =
     let kind = c .before .before .before .before .before .before .before .before in
     let start = kind .before .before .before .before .before in
     let a = start .args in
-    let fits = keeps-within (a .kept .now) (a .have) (start .pre .0) in
+    let fits = notWhole-within (a .kept .now) (a .have) (start .pre .0) in
     let body = body-whole (a .kept .now) (a .have) (a .byte) (kind .of .result) fits (kind .of .ensures) (start .pre .0 .within) in
     let whole = rw (c .before .before .before .before .before .before .before .body .ensures) at (c .before .before .before .before .before .before .if1 .left) in
     let long = rw (c .before .before .before .before .before .most .ensures) at (c .before .before .before .before .if2 .left) in
@@ -105,7 +105,7 @@ returns-3 c =
     let kind = test .before .before .before .before in
     let start = kind .before .before .before .before .before in
     let a = start .args in
-    let fits = keeps-within (a .kept .now) (a .have) (start .pre .0) in
+    let fits = notWhole-within (a .kept .now) (a .have) (start .pre .0) in
     let step = step-whole (a .traced) (a .room .now) (a .kept .now) (a .have) (a .byte) (a .out .now) (a .at) fits (kind .of .result) (kind .of .ensures) in
     let whole = rw (test .before .before .before .body .ensures) at (test .before .before .if1 .left) in
     let long = rw (test .before .most .ensures) at (test .if2 .left) in

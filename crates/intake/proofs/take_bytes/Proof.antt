@@ -5,21 +5,21 @@ use Prim.Native.Nat.{_+_, _-_, _≤_}
 use lib.ListN.{length, take}
 use Rattle.benchlines.specs.Records.{unknownKind}
 use Rattle.intake.specs.Input.{going}
-use Rattle.intake.specs.Reader.{Keeps}
-use Rattle.intake.proofs.Parts.{Sofar, begun, one-more, stops-full, stops-done, stops-ended}
+use Rattle.intake.specs.Reader.{NotWhole}
+use Rattle.intake.proofs.Parts.{PartSofar, part-begun, byte-more, stops-full, stops-done, stops-ended}
 use Rattle.intake.proofs.take_bytes.Statement.{statement}
 use Rattle.intake.proofs.take_bytes.Tie as tie
 
 abbrev Inv-loop : tie.InvT-loop
 Inv-loop room₀ kept₀ have bytes out₀ traced count₀ said₀ i₀ room kept out count said i =
     ((i ≤ length bytes) × ((length room ≡ length room₀) × (length kept ≡ length kept₀) × (length out ≡ length out₀)))
-    × (Keeps kept count × Sofar traced (going (take have kept₀)) bytes room₀ out₀ i (going (take count kept)) room out said)
+    × (NotWhole kept count × PartSofar traced (going (take have kept₀)) bytes room₀ out₀ i (going (take count kept)) room out said)
 
 abbrev μ-loop : tie.MeasureT-loop
 μ-loop room₀ kept₀ have bytes out₀ traced count₀ said₀ i₀ room kept out count said i = length bytes - i
 
 loop-holds : tie.Need-loop-holds Inv-loop μ-loop
-loop-holds c = ((omega arith, (refl, refl, refl)), (c .before .before .before .before .pre, begun _ _ _ _ _))
+loop-holds c = ((omega arith, (refl, refl, refl)), (c .before .before .before .before .pre, part-begun _ _ _ _ _))
 
 shared-slice-read-take-byte : tie.Need-shared-slice-read-take-byte Inv-loop μ-loop
 shared-slice-read-take-byte c = omega arith
@@ -75,7 +75,7 @@ returns-2 c =
     let test = byte .before .before .before .before .before in
     let h = test .before .loop in
     let t = byte .take-byte .ensures in
-    let more = one-more _ _ _ _ _ (h .i) _ _ _ _ (h .inv .1 .1) _ _ _ _ (test .loop-test .taken) (rw (c .before .if1 .left) at (t .0)) in
+    let more = byte-more _ _ _ _ _ (h .i) _ _ _ _ (h .inv .1 .1) _ _ _ _ (test .loop-test .taken) (rw (c .before .if1 .left) at (t .0)) in
     let stop = stops-ended _ _ _ _ _ (h .i + 1) _ _ _ _ more unknownKind (rw (c .if2 .taken) refl) (omega arith) in
     (stop .0, (stop .1, t .1))
 
@@ -93,7 +93,7 @@ loop-again c =
     let t = byte .take-byte .ensures in
     let same = h .inv .0 .1 in
     let kept = byte .take-byte .kept in
-    let more = one-more _ _ _ _ _ (h .i) _ _ _ _ (h .inv .1 .1) _ _ _ _ (test .loop-test .taken) (rw (c .before .if1 .left) at (t .0)) in (
+    let more = byte-more _ _ _ _ _ (h .i) _ _ _ _ (h .inv .1 .1) _ _ _ _ (test .loop-test .taken) (rw (c .before .if1 .left) at (t .0)) in (
       (omega arith, (kept .0 ∙ same .0, kept .1 .0 ∙ same .1, kept .1 .1 .1 .1 .0 ∙ same .2)),
       (t .1, rw (c .if2 .left) at more),
     )

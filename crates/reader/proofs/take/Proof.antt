@@ -4,20 +4,20 @@ use mathlib.Core.Path.{_≡_, refl, sym, _∙_}
 use Prim.Native.Nat.{ℕ, _-_}
 use lib.ListN.{length}
 use lib.Seq.{length-take-le}
-use Rattle.reader.proofs.Offered.{Sofar, begun, fits, some, one-more, all-taken}
+use Rattle.reader.proofs.Offered.{OfferSofar, offer-begun, fits, some, offer-more, all-taken}
 use borrow.Author.Needs.{needs}
 use Rattle.reader.proofs.take.Statement.{statement}
 use Rattle.reader.proofs.take.Tie as tie
 
 abbrev Inv-loop : tie.InvT-loop
 Inv-loop reader₀ room₀ bytes traced out₀ at₀ reader room out at =
-    ((length room ≡ length room₀) × (length out ≡ length out₀)) × Sofar reader₀ room₀ bytes reader room at
+    ((length room ≡ length room₀) × (length out ≡ length out₀)) × OfferSofar reader₀ room₀ bytes reader room at
 
 abbrev μ-loop : tie.MeasureT-loop
 μ-loop reader₀ room₀ bytes traced out₀ at₀ reader room out at = length bytes - at
 
 loop-holds : tie.Need-loop-holds Inv-loop μ-loop
-loop-holds c = ((refl, refl), begun _ _ _)
+loop-holds c = ((refl, refl), offer-begun _ _ _)
 
 sub-part : tie.Need-sub-part Inv-loop μ-loop
 sub-part c = omega arith
@@ -81,7 +81,7 @@ loop-again c =
     let h = part .before .before .before .before .before .before .loop in
     let t = part .part .ensures in (
       (part .part .kept .1 .0 ∙ h .inv .0 .0, part .part .kept .1 .1 .1 .0 ∙ h .inv .0 .1),
-      one-more _ _ _ _ _ _ (h .inv .1) _ _ _ _ _ _ _ (t .0) (t .1 .0),
+      offer-more _ _ _ _ _ _ (h .inv .1) _ _ _ _ _ _ _ (t .0) (t .1 .0),
     )
 
 same-length-3 : tie.Need-same-length-3 Inv-loop μ-loop
