@@ -11,7 +11,7 @@ use lib.ListN.{getD, take}
 use lib.Pow.{shr-shr}
 use Rattle.paper.specs.Bits.{bitAt}
 use Rattle.paper.specs.Record.{Family, recordBits, dataBytes, lastWeight, inBits, sameBits}
-use Rattle.paper.specs.Message.{Head, formFamily, bitsFrom, messageBits, message}
+use Rattle.paper.specs.Message.{Head, formFamily, headFields, fieldBits, bitsFrom, inBytes, messageBits, messageBytes, message}
 use Rattle.paper.proofs.Views.{bits-and-bytes}
 use Rattle.paper.proofs.Same.{bits-true}
 
@@ -68,4 +68,5 @@ agree-bits f a b e =
 pub same-message : (form : ℕ) (h : Head) (given bytes : List ℕ) → sameBits (formFamily form) given bytes ≡ true
     → message form h given ≡ message form h bytes
 unfolding message messageBits
-same-message form h given bytes e = rw (agree-bits (formFamily form) given bytes e)
+same-message form h given bytes e =
+    ap (λ (bits : List ℕ). inBytes (messageBytes form) (fieldBits (headFields form h) ++ bits)) (agree-bits (formFamily form) given bytes e)
