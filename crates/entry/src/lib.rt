@@ -5,8 +5,6 @@ ghost use Rattle.paper.specs.Answer.{freshAnswer, feedAnswer};
 ghost use Rattle.refusals.specs.Reply.{replyAnswer};
 ghost use Rattle.entry.specs.Mack.{mackAnswer};
 use gst::Gst;
-use gst::SUBFRAME_SECONDS;
-use gst::WEEK_SECONDS;
 use limits::WORD_BYTES;
 use refusals::Refusal;
 use refusals::Reply;
@@ -37,13 +35,13 @@ pub fn feed_entry(room: &[u8], word: &[u8], svn: Svn, gst: Gst, band: u8) -> Rep
         return Reply::Refused(Refusal::NoSatellite);
     }
     let time = gst.tow.0;
-    if time >= WEEK_SECONDS {
+    if !gst::is_time(time) {
         return Reply::Refused(Refusal::NoTime);
     }
     if word.len() != WORD_BYTES {
         return Reply::Refused(Refusal::NotAllowed);
     }
-    if band > 1 {
+    if !limits::band_known(band) {
         return Reply::Refused(Refusal::Unknown);
     }
     if ageing::comes_earlier(room, gst) {
@@ -63,10 +61,10 @@ pub fn mack_entry(room: &[u8], svn: Svn, gst: Gst) -> Reply
         return Reply::Refused(Refusal::NoSatellite);
     }
     let time = gst.tow.0;
-    if time >= WEEK_SECONDS {
+    if !gst::is_time(time) {
         return Reply::Refused(Refusal::NoTime);
     }
-    if time % SUBFRAME_SECONDS != 0 {
+    if !gst::is_start(time) {
         return Reply::Refused(Refusal::NotAStart);
     }
     Reply::Done

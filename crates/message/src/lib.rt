@@ -15,9 +15,7 @@ ghost use Rattle.refusals.specs.Reply.{replyAnswer};
 ghost use Rattle.message.specs.Heads.{headNumber, headFrom};
 ghost use Rattle.message.specs.Outcome.{headOf, builtAnswer, readBackAnswer, lengthsNumber, fieldsNumber};
 use gst::Gst;
-use gst::SUBFRAME_SECONDS;
 use gst::Tow;
-use gst::WEEK_SECONDS;
 use gst::Wn;
 use records::Ced;
 use records::Timing;
@@ -168,10 +166,10 @@ fn build_entry(out: &[u8], form: u8, h: Heading, given: &[u8]) -> Reply
         return Reply::Refused(Refusal::NoSatellite);
     }
     let time = h.gst.tow.0;
-    if time >= WEEK_SECONDS {
+    if !gst::is_time(time) {
         return Reply::Refused(Refusal::NoTime);
     }
-    if time % SUBFRAME_SECONDS != 0 {
+    if !gst::is_start(time) {
         return Reply::Refused(Refusal::NotAStart);
     }
     if !are_known(form, h.status) {
@@ -283,10 +281,10 @@ fn fields_entry(form: u8, h: Heading) -> Reply
         return Reply::Refused(Refusal::NoSatellite);
     }
     let time = h.gst.tow.0;
-    if time >= WEEK_SECONDS {
+    if !gst::is_time(time) {
         return Reply::Refused(Refusal::NoTime);
     }
-    if time % SUBFRAME_SECONDS != 0 {
+    if !gst::is_start(time) {
         return Reply::Refused(Refusal::NotAStart);
     }
     let counter = h.counter;
