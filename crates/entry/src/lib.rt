@@ -35,13 +35,13 @@ pub fn feed_entry(room: &[u8], word: &[u8], svn: Svn, gst: Gst, band: u8) -> Rep
         return Reply::Refused(Refusal::NoSatellite);
     }
     let time = gst.tow.0;
-    if !gst::is_time(time) {
+    if gst::tow_too_large(time) {
         return Reply::Refused(Refusal::NoTime);
     }
     if word.len() != WORD_BYTES {
         return Reply::Refused(Refusal::NotAllowed);
     }
-    if !limits::band_known(band) {
+    if limits::band_unknown(band) {
         return Reply::Refused(Refusal::Unknown);
     }
     if ageing::comes_earlier(room, gst) {
@@ -61,10 +61,10 @@ pub fn mack_entry(room: &[u8], svn: Svn, gst: Gst) -> Reply
         return Reply::Refused(Refusal::NoSatellite);
     }
     let time = gst.tow.0;
-    if !gst::is_time(time) {
+    if gst::tow_too_large(time) {
         return Reply::Refused(Refusal::NoTime);
     }
-    if !gst::is_start(time) {
+    if gst::not_a_start(time) {
         return Reply::Refused(Refusal::NotAStart);
     }
     Reply::Done

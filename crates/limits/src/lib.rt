@@ -1,6 +1,6 @@
 // Which numbers a call takes: the sizes of a store, and the numbers that come with a tag. Each test is of its numbers alone.
 ghost use mathlib.Core.Path.{_≡_};
-ghost use mathlib.Core.Bool.{_&&_};
+ghost use mathlib.Core.Bool.{not, _&&_};
 ghost use lib.Dec.{leb};
 ghost use Rattle.paper.specs.Store.{sizesAllowed, ruleKnown};
 ghost use Rattle.paper.specs.Tag.{kindKnown, copAllowed, lengthAllowed, statusKnown, statusAdds};
@@ -55,10 +55,10 @@ pub fn fresh_allowed(d: u8, n: u8, rule: u8) -> bool
 }
 
 // STORE 5.3: the bands
-pub fn band_known(band: u8) -> bool
-    ensures { λ r. ⌜ r ≡ leb band 1 ⌝ }
+pub fn band_unknown(band: u8) -> bool
+    ensures { λ r. ⌜ not r ≡ leb band 1 ⌝ }
 {
-    band <= E5B
+    band > E5B
 }
 
 // whether a tag of the kind is known

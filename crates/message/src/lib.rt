@@ -166,10 +166,10 @@ fn build_entry(out: &[u8], form: u8, h: Heading, given: &[u8]) -> Reply
         return Reply::Refused(Refusal::NoSatellite);
     }
     let time = h.gst.tow.0;
-    if !gst::is_time(time) {
+    if gst::tow_too_large(time) {
         return Reply::Refused(Refusal::NoTime);
     }
-    if !gst::is_start(time) {
+    if gst::not_a_start(time) {
         return Reply::Refused(Refusal::NotAStart);
     }
     if !are_known(form, h.status) {
@@ -281,10 +281,10 @@ fn fields_entry(form: u8, h: Heading) -> Reply
         return Reply::Refused(Refusal::NoSatellite);
     }
     let time = h.gst.tow.0;
-    if !gst::is_time(time) {
+    if gst::tow_too_large(time) {
         return Reply::Refused(Refusal::NoTime);
     }
-    if !gst::is_start(time) {
+    if gst::not_a_start(time) {
         return Reply::Refused(Refusal::NotAStart);
     }
     let counter = h.counter;

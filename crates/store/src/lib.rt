@@ -206,7 +206,7 @@ fn subframe_allowed(row: &[u8]) -> bool
     if time > LAST_START {
         return false;
     }
-    gst::is_start(time)
+    !gst::not_a_start(time)
 }
 
 // In a blank row any satellite is one too many.

@@ -31,23 +31,23 @@ a-satellite : (c : tie.Else2) → isSatellite (c .before .before .before .before
 a-satellite c = sym (c .before .is-satellite .ensures) ∙ not-false _ (c .if2 .left)
 
 a-time : (c : tie.Else3) → isTime (c .before .before .before .before .before .before .before .before .args .gst .tow .0) ≡ true
-a-time c = sym (c .before .is-time .ensures) ∙ not-false _ (c .if3 .left)
+a-time c = sym (c .before .tow-too-large .ensures) ∙ ap not (c .if3 .left)
 
 a-band : (c : tie.Else5) → leb (c .before .before .before .before .before .before .before .before .before .before .before .args .band) 1 ≡ true
-a-band c = sym (c .before .band-known .ensures) ∙ not-false _ (c .if5 .left)
+a-band c = sym (c .before .band-unknown .ensures) ∙ ap not (c .if5 .left)
 
 returns-2 : tie.Need-returns-2
 unfolding feedNumber
 returns-2 c = stop _ 3 _ [] (sym (c .before .is-satellite .ensures) ∙ not-true _ (c .if2 .taken)) ∙ pass _ 3 _ [] (a-store (c .before .before))
 
-is-time-requires : tie.Need-is-time-requires
-is-time-requires c κs = tt
+tow-too-large-requires : tie.Need-tow-too-large-requires
+tow-too-large-requires c κs = tt
 
 returns-3 : tie.Need-returns-3
 unfolding feedNumber
 returns-3 c =
     let sat = c .before .before in
-    stop _ 4 _ [] (sym (c .before .is-time .ensures) ∙ not-true _ (c .if3 .taken))
+    stop _ 4 _ [] (sym (c .before .tow-too-large .ensures) ∙ ap not (c .if3 .taken))
     ∙ pass _ 4 _ [] (a-satellite sat)
     ∙ pass _ 3 _ [] (a-store (sat .before .before))
 
@@ -61,8 +61,8 @@ returns-4 c =
     ∙ pass _ 4 _ [] (a-satellite sat)
     ∙ pass _ 3 _ [] (a-store (sat .before .before))
 
-band-known-requires : tie.Need-band-known-requires
-band-known-requires c κs = tt
+band-unknown-requires : tie.Need-band-unknown-requires
+band-unknown-requires c κs = tt
 
 returns-5 : tie.Need-returns-5
 unfolding feedNumber
@@ -70,7 +70,7 @@ returns-5 c =
     let word = c .before .before in
     let time = word .before in
     let sat = time .before .before in
-    stop _ 8 _ [] (sym (c .before .band-known .ensures) ∙ not-true _ (c .if5 .taken))
+    stop _ 8 _ [] (sym (c .before .band-unknown .ensures) ∙ ap not (c .if5 .taken))
     ∙ pass _ 8 _ [] (eq-eqb _ _ (word .if4 .left))
     ∙ pass _ 5 _ [] (a-time time)
     ∙ pass _ 4 _ [] (a-satellite sat)
@@ -117,10 +117,10 @@ feed-entry-spec =
     returns
     is-satellite-requires
     returns-2
-    is-time-requires
+    tow-too-large-requires
     returns-3
     returns-4
-    band-known-requires
+    band-unknown-requires
     returns-5
     comes-earlier-requires
     returns-6

@@ -1,6 +1,6 @@
 -- `mack_entry` tests in the paper's order: each return is the first test that fails, behind those that hold.
-use mathlib.Core.Path.{_≡_, sym, _∙_}
-use mathlib.Core.Bool.{true}
+use mathlib.Core.Path.{_≡_, sym, ap, _∙_}
+use mathlib.Core.Bool.{true, not}
 use mathlib.Core.List.{[]}
 use borrow.Author.Tests.{not-true, not-false}
 use Rattle.paper.specs.Satellite.{isSatellite}
@@ -29,32 +29,32 @@ a-satellite : (c : tie.Else2) → isSatellite (c .before .before .before .before
 a-satellite c = sym (c .before .is-satellite .ensures) ∙ not-false _ (c .if2 .left)
 
 a-time : (c : tie.Else3) → isTime (c .before .before .before .before .before .before .before .args .gst .tow .0) ≡ true
-a-time c = sym (c .before .is-time .ensures) ∙ not-false _ (c .if3 .left)
+a-time c = sym (c .before .tow-too-large .ensures) ∙ ap not (c .if3 .left)
 
 returns-2 : tie.Need-returns-2
 unfolding mackNumber
 returns-2 c = stop _ 3 _ [] (sym (c .before .is-satellite .ensures) ∙ not-true _ (c .if2 .taken)) ∙ pass _ 3 _ [] (a-store (c .before .before))
 
-is-time-requires : tie.Need-is-time-requires
-is-time-requires c κs = tt
+tow-too-large-requires : tie.Need-tow-too-large-requires
+tow-too-large-requires c κs = tt
 
 returns-3 : tie.Need-returns-3
 unfolding mackNumber
 returns-3 c =
     let sat = c .before .before in
-    stop _ 4 _ [] (sym (c .before .is-time .ensures) ∙ not-true _ (c .if3 .taken))
+    stop _ 4 _ [] (sym (c .before .tow-too-large .ensures) ∙ ap not (c .if3 .taken))
     ∙ pass _ 4 _ [] (a-satellite sat)
     ∙ pass _ 3 _ [] (a-store (sat .before .before))
 
-is-start-requires : tie.Need-is-start-requires
-is-start-requires c κs = tt
+not-a-start-requires : tie.Need-not-a-start-requires
+not-a-start-requires c κs = tt
 
 returns-4 : tie.Need-returns-4
 unfolding mackNumber
 returns-4 c =
     let time = c .before .before in
     let sat = time .before .before in
-    stop _ 5 _ [] (sym (c .before .is-start .ensures) ∙ not-true _ (c .if4 .taken))
+    stop _ 5 _ [] (sym (c .before .not-a-start .ensures) ∙ ap not (c .if4 .taken))
     ∙ pass _ 5 _ [] (a-time time)
     ∙ pass _ 4 _ [] (a-satellite sat)
     ∙ pass _ 3 _ [] (a-store (sat .before .before))
@@ -64,7 +64,7 @@ unfolding mackNumber
 returns-5 c =
     let time = c .before .before in
     let sat = time .before .before in
-    pass _ 6 0 [] (sym (c .before .is-start .ensures) ∙ not-false _ (c .if4 .left))
+    pass _ 6 0 [] (sym (c .before .not-a-start .ensures) ∙ ap not (c .if4 .left))
     ∙ pass _ 5 _ [] (a-time time)
     ∙ pass _ 4 _ [] (a-satellite sat)
     ∙ pass _ 3 _ [] (a-store (sat .before .before))
@@ -77,8 +77,8 @@ mack-entry-spec =
     returns
     is-satellite-requires
     returns-2
-    is-time-requires
+    tow-too-large-requires
     returns-3
-    is-start-requires
+    not-a-start-requires
     returns-4
     returns-5)

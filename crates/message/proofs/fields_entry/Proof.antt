@@ -18,32 +18,32 @@ unfolding fieldsNumber
 returns c =
     stop _ 3 _ [] (sym (c .before .satellites-read .ensures) ∙ not-true _ (c .if1 .taken))
 
-is-time-requires : tie.Need-is-time-requires
-is-time-requires c κs = search needs
+tow-too-large-requires : tie.Need-tow-too-large-requires
+tow-too-large-requires c κs = search needs
 
 -- what the tests of the time say once they are passed
 a-time : (c : tie.Else2) → isTime (c .before .before .before .before .args .h .gst .tow .0) ≡ true
-a-time c = sym (c .before .is-time .ensures) ∙ not-false _ (c .if2 .left)
+a-time c = sym (c .before .tow-too-large .ensures) ∙ ap not (c .if2 .left)
 
 a-start : (c : tie.Else3) → isStart (c .before .before .before .before .before .before .args .h .gst .tow .0) ≡ true
-a-start c = sym (c .before .is-start .ensures) ∙ not-false _ (c .if3 .left)
+a-start c = sym (c .before .not-a-start .ensures) ∙ ap not (c .if3 .left)
 
 returns-2 : tie.Need-returns-2
 unfolding fieldsNumber
 returns-2 c =
     let sat = c .before .before in
-    stop _ 4 _ [] (sym (c .before .is-time .ensures) ∙ not-true _ (c .if2 .taken))
+    stop _ 4 _ [] (sym (c .before .tow-too-large .ensures) ∙ ap not (c .if2 .taken))
     ∙ pass _ 4 _ [] (sym (sat .before .satellites-read .ensures) ∙ not-false _ (sat .if1 .left))
 
-is-start-requires : tie.Need-is-start-requires
-is-start-requires c κs = search needs
+not-a-start-requires : tie.Need-not-a-start-requires
+not-a-start-requires c κs = search needs
 
 returns-3 : tie.Need-returns-3
 unfolding fieldsNumber
 returns-3 c =
     let time = c .before .before in
     let sat = time .before .before in
-    stop _ 5 _ [] (sym (c .before .is-start .ensures) ∙ not-true _ (c .if3 .taken))
+    stop _ 5 _ [] (sym (c .before .not-a-start .ensures) ∙ ap not (c .if3 .taken))
     ∙ pass _ 5 _ [] (a-time time)
     ∙ pass _ 4 _ [] (sym (sat .before .satellites-read .ensures) ∙ not-false _ (sat .if1 .left))
 
@@ -75,9 +75,9 @@ fields-entry-spec =
     (tie.spec
     satellites-read-requires
     returns
-    is-time-requires
+    tow-too-large-requires
     returns-2
-    is-start-requires
+    not-a-start-requires
     returns-3
     returns-4
     returns-5)

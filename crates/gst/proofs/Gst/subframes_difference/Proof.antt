@@ -1,9 +1,9 @@
 -- `subframes_difference`: each time of week is tested, and the two parts and their sum fit an i32 for any two times.
 use borrow.Author.Needs.{needs}
-use borrow.Author.Tests.{ltb-true, not-true, not-false}
+use borrow.Author.Tests.{ltb-true}
 use lib.IntN.{_+ℤ_}
-use mathlib.Core.Bool.{true}
-use mathlib.Core.Path.{_≡_, sym, _∙_}
+use mathlib.Core.Bool.{true, not}
+use mathlib.Core.Path.{_≡_, sym, ap, _∙_}
 use mir.Facts.{toZ-ofZ}
 use mir.Syntax.{w32}
 use mir.Val.{SFits}
@@ -26,26 +26,26 @@ sum-fits c =
     fits (weeks .result +ℤ times .result)
     (omega (arith, size-sum (weeks .result) (times .result), weeks .ensures .1, times .ensures .1))
 
-is-time-requires : tie.Need-is-time-requires
-is-time-requires c κs = search needs
+tow-too-large-requires : tie.Need-tow-too-large-requires
+tow-too-large-requires c κs = search needs
 
 returns : tie.Need-returns
 unfolding difference
-returns c = simp (sym (c .before .is-time .ensures) ∙ not-true _ (c .if1 .taken))
+returns c = simp (sym (c .before .tow-too-large .ensures) ∙ ap not (c .if1 .taken))
 
-is-time-requires-2 : tie.Need-is-time-requires-2
-is-time-requires-2 c κs = search needs
+tow-too-large-requires-2 : tie.Need-tow-too-large-requires-2
+tow-too-large-requires-2 c κs = search needs
 
 -- what the two tests say once they are passed
 one-time : (c : tie.Else1) → isTime (c .before .before .args .self .tow .0) ≡ true
-one-time c = sym (c .before .is-time .ensures) ∙ not-false _ (c .if1 .left)
+one-time c = sym (c .before .tow-too-large .ensures) ∙ ap not (c .if1 .left)
 
 other-time : (c : tie.Else2) → isTime (c .before .before .before .before .args .other .tow .0) ≡ true
-other-time c = sym (c .before .is-time2 .ensures) ∙ not-false _ (c .if2 .left)
+other-time c = sym (c .before .tow-too-large2 .ensures) ∙ ap not (c .if2 .left)
 
 returns-2 : tie.Need-returns-2
 unfolding difference
-returns-2 c = simp (one-time (c .before .before), sym (c .before .is-time2 .ensures) ∙ not-true _ (c .if2 .taken))
+returns-2 c = simp (one-time (c .before .before), sym (c .before .tow-too-large2 .ensures) ∙ ap not (c .if2 .taken))
 
 weeks-apart-requires : tie.Need-weeks-apart-requires
 weeks-apart-requires c κs = search needs
@@ -67,4 +67,4 @@ returns-3 c =
 pub subframes-difference-spec : {M : Type 1} → statement M
 subframes-difference-spec =
     tie.close
-    (tie.spec is-time-requires returns is-time-requires-2 returns-2 weeks-apart-requires times-apart-requires add-t11 returns-3)
+    (tie.spec tow-too-large-requires returns tow-too-large-requires-2 returns-2 weeks-apart-requires times-apart-requires add-t11 returns-3)
