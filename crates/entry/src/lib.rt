@@ -36,13 +36,13 @@ pub fn feed_entry(room: &[u8], word: &[u8], svn: Svn, gst: Gst, band: u8) -> Rep
     }
     let time = gst.tow.0;
     if gst::tow_too_large(time) {
-        return Reply::Refused(Refusal::NoTime);
+        return Reply::Refused(Refusal::TowTooLarge);
     }
     if word.len() != WORD_BYTES {
         return Reply::Refused(Refusal::NotAllowed);
     }
     if limits::band_unknown(band) {
-        return Reply::Refused(Refusal::Unknown);
+        return Reply::Refused(Refusal::UnknownCode);
     }
     if ageing::comes_earlier(room, gst) {
         return Reply::Refused(Refusal::Earlier);
@@ -62,7 +62,7 @@ pub fn mack_entry(room: &[u8], svn: Svn, gst: Gst) -> Reply
     }
     let time = gst.tow.0;
     if gst::tow_too_large(time) {
-        return Reply::Refused(Refusal::NoTime);
+        return Reply::Refused(Refusal::TowTooLarge);
     }
     if gst::not_a_start(time) {
         return Reply::Refused(Refusal::NotAStart);
