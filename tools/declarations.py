@@ -1,8 +1,7 @@
 """Holds the C header and the Rust crate to the code: to the exports of crates/ffi, ffi_intake, ffi_orbit and ffi_message the names of the
 calls and of each the number, the order and the width of its parameters, what it hands back, and the fields of the structs; to
-crates/refusals the numbers, those of an input to benchlines and intake, those of an orbit to orbit and that of a message to message; to
-the crates that have them the limits, sizes, kinds, forms and ageing rules; to the definitions of crates/paper the order of refusals in the
-header's comments; and to each other names, texts, codes and versions.
+crates/refusals the numbers; to the crates that have them the limits, sizes, bands, kinds, forms and ageing rules; to the definitions of
+crates/paper the order of refusals in the header's comments; and to each other names, texts, codes and versions.
 
 usage: declarations.py      in the repository's top folder
 """
@@ -28,18 +27,6 @@ RUST_STRUCTS = [SYS, RUST + "orbit.rs"]
 
 # the code's names of structs that are others outside, where they are for those who read them
 RENAMED_STRUCTS = {"OrbitRead": "Orbit", "TimingRead": "Timing"}
-
-# the code's names of refusals that are others outside, where they could be taken for each other or for an unlisted number
-RENAMED = {"NoTime": "TowTooLarge", "OutOfTime": "TimeArithmetic", "Unknown": "UnknownCode"}
-
-# the numbers of an input of records, which no call on a room answers: the crate that has each, and its name there
-OF_INPUT = {"UnknownKind": ("benchlines", "UNKNOWN_KIND"), "CutShort": ("intake", "CUT_SHORT")}
-
-# the numbers that only reading an orbit answers
-OF_ORBIT = {"IssuesDiffer": ("orbit", "ISSUES_DIFFER"), "OtherSatellite": ("orbit", "OTHER_SATELLITE")}
-
-# the number that only reading a message back answers
-OF_MESSAGE = {"PaddingSet": ("message", "PADDING_SET")}
 
 # a constant of the header and of the crate, and the code's: its crate and its name there
 CONSTANTS = {
@@ -147,6 +134,16 @@ def of_header(text):
 def enum_of_header(text, name):
     body = re.search(r"enum dawnstook_" + name + r" \{(.*?)\}", text, re.S).group(1)
     return {n: int(v) for n, v in re.findall(r"DAWNSTOOK_(\w+) = (\d+)", body)}
+
+
+def numbers_of_code():
+    """Name to number: the cases of the calls' refusals, and the constants of what is answered beside them."""
+    text = code_of("refusals")
+    found = {n: int(v) for n, v in re.findall(r"Refusal::(\w+) => (\d+),", text)}
+    found.update({camel(n): int(v) for n, v in re.findall(r"^pub const (\w+): u8 = (\d+);", text, re.M)})
+    if len(found) < 2:
+        sys.exit("outside: no numbers found in crates/refusals")
+    return found
 
 
 def texts_of_header(text):
@@ -319,21 +316,15 @@ def calls(held, header):
 
 def numbers(held, header):
     before = held.wrong
-    code = {RENAMED.get(n, n): int(v) for n, v in re.findall(r"Refusal::(\w+) => (\d+),", read("crates/refusals/src/lib.rt"))}
+    code = numbers_of_code()
     of_c, texts = enum_of_header(header, "number"), texts_of_header(header)
     of_rust_table = refusals_of_rust(read(RUST + "refusal.rs"))
-    if len(code) < 2:
-        sys.exit("outside: no numbers found in crates/refusals")
-    in_code = constants_of_code()
-    own = len(code)
-    code.update({n: constant_of(*at, in_code) for n, at in {**OF_INPUT, **OF_ORBIT, **OF_MESSAGE}.items()})
     held.same(f"{HEADER}: numbers", {camel(n): v for n, v in of_c.items()}, dict(Done=0, **code))
     held.same(f"{RUST}refusal.rs: numbers", {n: v for n, (v, _) in of_rust_table.items()}, code)
     held.same(f"{HEADER}: numbers that have a text", sorted(texts), sorted(of_c))
     held.same(f"{RUST}refusal.rs: texts", {n: t for n, (_, t) in of_rust_table.items()},
               {camel(n): t for n, t in texts.items() if n != "DONE"})
-    held.done(before, f"header and crate have the {own} numbers of crates/refusals, the {len(OF_INPUT)} of an input, the {len(OF_ORBIT)} "
-              "of an orbit and that of a message, and one text for each")
+    held.done(before, f"header and crate have the {len(code)} numbers of crates/refusals, and one text for each")
 
 
 def orders(held, _):
@@ -353,14 +344,16 @@ def codes(held, header):
         in_rust = {n: int(v) for n, v in re.findall(r"^ +(\w+) = (\d+),$", body, re.M)}
         held.same(f"{RUST}: {rust_name}", in_rust, {names.get(n): v for n, v in of_c.items()})
     code = constants_of_code()
+    bands = {"E1B": 0, "E5B": constant_of("limits", "E5B", code)}
+    held.same(f"{HEADER}: bands", enum_of_header(header, "band"), bands)
     kinds = {n: constant_of("limits", n + "_KIND", code) for n in CODES["kind"][1]}
     held.same(f"{HEADER}: kinds", enum_of_header(header, "kind"), kinds)
     forms = {n: constant_of("message", n[len("FORM_"):] + "_FORM", code) for n in CODES["form"][1]}
     held.same(f"{HEADER}: forms", enum_of_header(header, "form"), forms)
     rules = {"AGE_BY_MOVES": 0, "AGE_BY_TIME": constant_of("layout", "TIME_RULE", code)}
     held.same(f"{HEADER}: ageing rules", enum_of_header(header, "ageing"), rules)
-    held.done(before, "header and crate have the same codes, the kinds those of crates/limits, the forms those of crates/message, the rule by "
-              "time that of crates/layout")
+    held.done(before, "header and crate have the same codes, bands and kinds those of crates/limits, the forms those of crates/message, the "
+              "rule by time that of crates/layout")
 
 
 def scales(held, _):
