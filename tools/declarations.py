@@ -1,8 +1,9 @@
 """Holds the C header and the Rust crate to the code: to the exports of crates/ffi, ffi_intake, ffi_orbit and ffi_message the names of the
 calls and of each the number, the order and the width of its parameters, what it hands back, and the fields of the structs; to
-crates/refusals the numbers, those of an input to benchlines and intake, those of an orbit to orbit and that of a message to message; to
-the crates that have them the limits, sizes, kinds, forms and ageing rules; to the definitions of crates/paper the order of refusals in the
-header's comments; and to each other names, texts, codes and versions.
+crates/refusals the numbers; to the crates that have them the limits, sizes, bands, kinds, forms and ageing rules; to the definitions of
+crates/paper the order of refusals in the header's comments; and to each other names, texts, codes and versions. And holds the pages to
+the tree: the numbers and the orders of docs/STORE.md, 14, the numbers of docs/ANSWER.md, the crates of README.md, and the functions, wrong
+answers, crates and counts of docs/PROMISES.md.
 
 usage: declarations.py      in the repository's top folder
 """
@@ -11,6 +12,7 @@ import re
 import sys
 
 HEADER, SYS, RUST = "include/dawnstook.h", "rust/src/sys.rs", "rust/src/"
+README, STORE, ANSWER, PROMISES = "README.md", "docs/STORE.md", "docs/ANSWER.md", "docs/PROMISES.md"
 
 # the crates that have exports
 EXPORTS = ["ffi", "ffi_intake", "ffi_orbit", "ffi_message"]
@@ -28,18 +30,6 @@ RUST_STRUCTS = [SYS, RUST + "orbit.rs"]
 
 # the code's names of structs that are others outside, where they are for those who read them
 RENAMED_STRUCTS = {"OrbitRead": "Orbit", "TimingRead": "Timing"}
-
-# the code's names of refusals that are others outside, where they could be taken for each other or for an unlisted number
-RENAMED = {"NoTime": "TowTooLarge", "OutOfTime": "TimeArithmetic", "Unknown": "UnknownCode"}
-
-# the numbers of an input of records, which no call on a room answers: the crate that has each, and its name there
-OF_INPUT = {"UnknownKind": ("benchlines", "UNKNOWN_KIND"), "CutShort": ("intake", "CUT_SHORT")}
-
-# the numbers that only reading an orbit answers
-OF_ORBIT = {"IssuesDiffer": ("orbit", "ISSUES_DIFFER"), "OtherSatellite": ("orbit", "OTHER_SATELLITE")}
-
-# the number that only reading a message back answers
-OF_MESSAGE = {"PaddingSet": ("message", "PADDING_SET")}
 
 # a constant of the header and of the crate, and the code's: its crate and its name there
 CONSTANTS = {
@@ -147,6 +137,16 @@ def of_header(text):
 def enum_of_header(text, name):
     body = re.search(r"enum dawnstook_" + name + r" \{(.*?)\}", text, re.S).group(1)
     return {n: int(v) for n, v in re.findall(r"DAWNSTOOK_(\w+) = (\d+)", body)}
+
+
+def numbers_of_code():
+    """Name to number: the cases of the calls' refusals, and the constants of what is answered beside them."""
+    text = code_of("refusals")
+    found = {n: int(v) for n, v in re.findall(r"Refusal::(\w+) => (\d+),", text)}
+    found.update({camel(n): int(v) for n, v in re.findall(r"^pub const (\w+): u8 = (\d+);", text, re.M)})
+    if len(found) < 2:
+        sys.exit("outside: no numbers found in crates/refusals")
+    return found
 
 
 def texts_of_header(text):
@@ -289,6 +289,57 @@ def orders_of_header(text):
     return found
 
 
+# Pages.
+
+def table_of(page, head):
+    """The first table behind a text of a page: the cells of its rows."""
+    rows, behind = [], read(page).partition(head)[2]
+    for line in behind.splitlines():
+        if line.startswith("|"):
+            rows.append([cell.strip() for cell in line.strip("|").split("|")])
+        elif rows:
+            break
+    if len(rows) < 3:
+        sys.exit(f"outside: {page}: no table behind '{head}'")
+    return rows[2:]
+
+
+def quoted(text):
+    """The names between back quotes."""
+    return re.findall(r"`([\w:]+)`", text)
+
+
+def said_in(page, pattern):
+    """The numbers of the one sentence of a page that has this form."""
+    found = list(re.finditer(pattern, read(page), re.M))
+    if len(found) != 1:
+        sys.exit(f"outside: {page}: {len(found)} sentences of the form '{pattern}'")
+    return [int(n) for n in found[0].groups()]
+
+
+def crates_of_tree():
+    return re.findall(r"^(\w+):", read("crates.txt"), re.M)
+
+
+def public_functions():
+    """Crate and name of each, as `gst Gst::add_seconds`."""
+    found = []
+    for file in sorted(glob.glob("crates/*/src/**/*.rt", recursive=True)):
+        kind = ""
+        for line in without_comments(read(file)).splitlines():
+            opened = re.match(r"impl (\w+) \{", line)
+            kind = opened.group(1) + "::" if opened else "" if line.startswith("}") else kind
+            named = re.match(r'\s*pub (?:extern "C" )?fn (\w+)', line)
+            if named:
+                found.append(f"{file.split('/')[1]} {kind}{named.group(1)}")
+    return found
+
+
+def per_file(pattern, form):
+    """What a pattern finds in each file whose name has a form."""
+    return {file: re.findall(form, read(file), re.M) for file in sorted(glob.glob(pattern))}
+
+
 class Held:
     """Counts what differs, and prints it."""
 
@@ -299,6 +350,11 @@ class Held:
         if found != expected:
             print(f"outside: {what}: {found}, but it is to be {expected}")
             self.wrong += 1
+
+    def members(self, what, found, expected):
+        """Each of the expected once, and nothing else."""
+        for name in sorted(set(found) | set(expected)):
+            self.same(f"{what}: how often {name} stands there", found.count(name), expected.count(name))
 
     def done(self, before, text):
         if self.wrong == before:
@@ -319,21 +375,15 @@ def calls(held, header):
 
 def numbers(held, header):
     before = held.wrong
-    code = {RENAMED.get(n, n): int(v) for n, v in re.findall(r"Refusal::(\w+) => (\d+),", read("crates/refusals/src/lib.rt"))}
+    code = numbers_of_code()
     of_c, texts = enum_of_header(header, "number"), texts_of_header(header)
     of_rust_table = refusals_of_rust(read(RUST + "refusal.rs"))
-    if len(code) < 2:
-        sys.exit("outside: no numbers found in crates/refusals")
-    in_code = constants_of_code()
-    own = len(code)
-    code.update({n: constant_of(*at, in_code) for n, at in {**OF_INPUT, **OF_ORBIT, **OF_MESSAGE}.items()})
     held.same(f"{HEADER}: numbers", {camel(n): v for n, v in of_c.items()}, dict(Done=0, **code))
     held.same(f"{RUST}refusal.rs: numbers", {n: v for n, (v, _) in of_rust_table.items()}, code)
     held.same(f"{HEADER}: numbers that have a text", sorted(texts), sorted(of_c))
     held.same(f"{RUST}refusal.rs: texts", {n: t for n, (_, t) in of_rust_table.items()},
               {camel(n): t for n, t in texts.items() if n != "DONE"})
-    held.done(before, f"header and crate have the {own} numbers of crates/refusals, the {len(OF_INPUT)} of an input, the {len(OF_ORBIT)} "
-              "of an orbit and that of a message, and one text for each")
+    held.done(before, f"header and crate have the {len(code)} numbers of crates/refusals, and one text for each")
 
 
 def orders(held, _):
@@ -353,14 +403,16 @@ def codes(held, header):
         in_rust = {n: int(v) for n, v in re.findall(r"^ +(\w+) = (\d+),$", body, re.M)}
         held.same(f"{RUST}: {rust_name}", in_rust, {names.get(n): v for n, v in of_c.items()})
     code = constants_of_code()
+    bands = {"E1B": 0, "E5B": constant_of("limits", "E5B", code)}
+    held.same(f"{HEADER}: bands", enum_of_header(header, "band"), bands)
     kinds = {n: constant_of("limits", n + "_KIND", code) for n in CODES["kind"][1]}
     held.same(f"{HEADER}: kinds", enum_of_header(header, "kind"), kinds)
     forms = {n: constant_of("message", n[len("FORM_"):] + "_FORM", code) for n in CODES["form"][1]}
     held.same(f"{HEADER}: forms", enum_of_header(header, "form"), forms)
     rules = {"AGE_BY_MOVES": 0, "AGE_BY_TIME": constant_of("layout", "TIME_RULE", code)}
     held.same(f"{HEADER}: ageing rules", enum_of_header(header, "ageing"), rules)
-    held.done(before, "header and crate have the same codes, the kinds those of crates/limits, the forms those of crates/message, the rule by "
-              "time that of crates/layout")
+    held.done(before, "header and crate have the same codes, bands and kinds those of crates/limits, the forms those of crates/message, the "
+              "rule by time that of crates/layout")
 
 
 def scales(held, _):
@@ -394,9 +446,62 @@ def constants(held, header):
     held.done(before, f"header and crate are of version {version}")
 
 
+def numbers_on_pages(held, _):
+    before = held.wrong
+    every = [0, *numbers_of_code().values()]
+    held.members(f"{STORE}, 14.1", [int(row[0]) for row in table_of(STORE, "**14.1 ")], every)
+    of_inputs = said_in(ANSWER, r"^(\d+) and (\d+) are of inputs of records alone")
+    controller = [int(row[0]) for row in table_of(ANSWER, "What a crane does with a refusal")]
+    held.members(f"{ANSWER}, what a crane does and the sentence behind it", controller + of_inputs, every)
+    held.done(before, f"{STORE}, 14.1, and {ANSWER} have the {len(every)} numbers")
+
+
+def orders_on_page(held, _):
+    """Calls on a time are held to the header. The numbers of a part and of an end are their input's (STORE 17.8)."""
+    before = held.wrong
+    expected = {**orders_of_header(read(HEADER)), **orders_of_definitions()}
+    rows = [(name, re.match(r"(?:\d+, )*\d+", row[3])) for row in table_of(STORE, "**14.2 ") for name in re.findall(r"`dawnstook_(\w+)`", row[2])]
+    held.members(f"{STORE}, 14.2", [name for name, _ in rows], [name for name in expected if name != "room_size"])
+    for name, order in rows:
+        if name not in ("part", "end"):
+            held.same(f"{STORE}, 14.2: order of dawnstook_{name}", order and [int(n) for n in order.group(0).split(", ")], expected.get(name))
+    held.done(before, f"{STORE}, 14.2, has the order of refusals of the {len(rows)} exports")
+
+
+def crates_on_pages(held, _):
+    before = held.wrong
+    crates = crates_of_tree()
+    rows = table_of(README, "## Where things stand")
+    held.members(f"{README}, where things stand", quoted(" ".join(row[1] for row in rows)), crates)
+    held.members(f"{PROMISES}, seconds", [row[0] for row in table_of(PROMISES, "## Seconds that each crate takes")], crates)
+    held.done(before, f"{README} and {PROMISES} have the {len(crates)} crates")
+
+
+def promises_on_page(held, _):
+    before = held.wrong
+    face, inner = table_of(PROMISES, "## The face"), table_of(PROMISES, "## Inner functions")
+    functions = public_functions()
+    held.members(f"{PROMISES}, functions", [f"{row[0]} {name}" for row in face + inner for name in quoted(row[1])], functions)
+    asks = per_file("crates/*/proofs/Asks.antt", r"^pub \S+-asks-nothing :")
+    held.members(f"{PROMISES}, crates of the face", [row[0] for row in face], [file.split("/")[1] for file, found in asks.items() for _ in found])
+    wrong = per_file("crates/*/must-fail/*.edit", r"^wrong: (\w+)$")
+    rounds = {file: found for file, found in wrong.items() if re.search(r"/round_\d+\.edit$", file)}
+    tried = {name for found in wrong.values() for name in found}
+    held.same(f"{PROMISES}: wrong answers that it does not name", sorted(tried - set(quoted(read(PROMISES)))), [])
+    named = {name for row in face + inner for name in quoted(row[4])}
+    held.same(f"{PROMISES}: wrong answers that are not there", sorted(named - tried), [])
+    theorems, answers, in_rounds = (sum(map(len, of.values())) for of in (asks, wrong, rounds))
+    held.same(f"{PROMISES}: theorems `NAME-asks-nothing`", said_in(PROMISES, r"That is (\d+) theorems `NAME-asks-nothing`"), [theorems])
+    counts = [len(functions), theorems, len(functions) - theorems, answers, len(wrong), in_rounds, len(rounds), answers - in_rounds]
+    form = (r"^(\d+) public functions: (\d+) of the face, (\d+) inner\. "
+            r"(\d+) wrong answers in (\d+) edits: (\d+) in (\d+) rounds, and (\d+) with a file of their own\.$")
+    held.same(f"{PROMISES}: counts", said_in(PROMISES, form), counts)
+    held.done(before, f"{PROMISES} has the {len(functions)} public functions and the {answers} wrong answers")
+
+
 def main():
     held, header = Held(), without_comments(read(HEADER))
-    for part in (calls, numbers, orders, scales, codes, constants):
+    for part in (calls, numbers, orders, scales, codes, constants, numbers_on_pages, orders_on_page, crates_on_pages, promises_on_page):
         part(held, header)
     sys.exit(1 if held.wrong else 0)
 

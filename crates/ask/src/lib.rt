@@ -198,7 +198,7 @@ pub fn ask(room: &[u8], timing: bool, svn: Svn) -> Answered
         return Answered::Refused(Refusal::AgeUnknown);
     }
     let NewTime::Time(time) = time_before(room, row, at, timing) else {
-        return Answered::Refused(Refusal::OutOfTime);
+        return Answered::Refused(Refusal::TimeArithmetic);
     };
     Answered::Record(at, numbers::read16(room, at + COUNT_AT), time)
 }

@@ -9,6 +9,7 @@ use navmessage::Asked;
 use records::Ced;
 use records::Timing;
 use refusals::Reply;
+use refusals::UNKNOWN_KIND;
 use svn::Svn;
 use tags::Tagged;
 use text::put_bytes;
@@ -31,9 +32,6 @@ ghost use Rattle.text.specs.Text.{Put};
 const WORD_AT: usize = 8;
 
 const WORD_END: usize = WORD_AT + WORD_BYTES;
-
-// bench only: unknown kind byte
-pub const UNKNOWN_KIND: u8 = 13;
 
 // The week and the time from a place of a body.
 fn time(body: &[u8], at: usize) -> Gst

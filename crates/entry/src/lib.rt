@@ -5,8 +5,6 @@ ghost use Rattle.paper.specs.Answer.{freshAnswer, feedAnswer};
 ghost use Rattle.refusals.specs.Reply.{replyAnswer};
 ghost use Rattle.entry.specs.Mack.{mackAnswer};
 use gst::Gst;
-use gst::SUBFRAME_SECONDS;
-use gst::WEEK_SECONDS;
 use limits::WORD_BYTES;
 use refusals::Refusal;
 use refusals::Reply;
@@ -37,14 +35,14 @@ pub fn feed_entry(room: &[u8], word: &[u8], svn: Svn, gst: Gst, band: u8) -> Rep
         return Reply::Refused(Refusal::NoSatellite);
     }
     let time = gst.tow.0;
-    if time >= WEEK_SECONDS {
-        return Reply::Refused(Refusal::NoTime);
+    if gst::tow_too_large(time) {
+        return Reply::Refused(Refusal::TowTooLarge);
     }
     if word.len() != WORD_BYTES {
         return Reply::Refused(Refusal::NotAllowed);
     }
-    if band > 1 {
-        return Reply::Refused(Refusal::Unknown);
+    if limits::band_unknown(band) {
+        return Reply::Refused(Refusal::UnknownCode);
     }
     if ageing::comes_earlier(room, gst) {
         return Reply::Refused(Refusal::Earlier);
@@ -63,10 +61,10 @@ pub fn mack_entry(room: &[u8], svn: Svn, gst: Gst) -> Reply
         return Reply::Refused(Refusal::NoSatellite);
     }
     let time = gst.tow.0;
-    if time >= WEEK_SECONDS {
-        return Reply::Refused(Refusal::NoTime);
+    if gst::tow_too_large(time) {
+        return Reply::Refused(Refusal::TowTooLarge);
     }
-    if time % SUBFRAME_SECONDS != 0 {
+    if gst::not_a_start(time) {
         return Reply::Refused(Refusal::NotAStart);
     }
     Reply::Done

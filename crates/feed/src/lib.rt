@@ -60,8 +60,8 @@ fn start_of(gst: Gst) -> u32
 {
     match gst.gst_subframe() {
         NewTime::Time(start) => start.tow.0,
-        NewTime::NoTime => 0,
-        NewTime::OutOfRange => 0,
+        NewTime::TowTooLarge => 0,
+        NewTime::TimeArithmetic => 0,
     }
 }
 

@@ -286,8 +286,8 @@ fn of_time(time: NewTime) -> Moment
             week: gst.wn.0,
             time: gst.tow.0,
         },
-        NewTime::NoTime => no_moment(Refusal::NoTime),
-        NewTime::OutOfRange => no_moment(Refusal::OutOfTime),
+        NewTime::TowTooLarge => no_moment(Refusal::TowTooLarge),
+        NewTime::TimeArithmetic => no_moment(Refusal::TimeArithmetic),
     }
 }
 
@@ -339,8 +339,8 @@ fn of_start(start: Start) -> Mark
             number: 0,
             start: 0,
         },
-        Start::NoTime => Mark {
-            number: refusals::number(Refusal::NoTime),
+        Start::TowTooLarge => Mark {
+            number: refusals::number(Refusal::TowTooLarge),
             start: 0,
         },
     }
@@ -366,8 +366,8 @@ fn of_apart(apart: Apart) -> Span
             number: 0,
             subframes,
         },
-        Apart::NoTime => Span {
-            number: refusals::number(Refusal::NoTime),
+        Apart::TowTooLarge => Span {
+            number: refusals::number(Refusal::TowTooLarge),
             subframes: 0,
         },
     }

@@ -12,8 +12,8 @@ use gst::Tow;
 use gst::Wn;
 use message::Built;
 use message::Heading;
-use message::PADDING_SET;
 use message::ReadBack;
+use refusals::PADDING_SET;
 use svn::Svn;
 
 // What building came to: its number, and how many bytes the message has.

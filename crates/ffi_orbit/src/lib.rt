@@ -16,11 +16,11 @@ use fields::Word4;
 use fields::Word5;
 use fields::Word6;
 use fields::Word10;
-use orbit::ISSUES_DIFFER;
-use orbit::OTHER_SATELLITE;
 use orbit::Placed;
 use orbit::Scaled;
 use orbit::ScaledTiming;
+use refusals::ISSUES_DIFFER;
+use refusals::OTHER_SATELLITE;
 use svn::Svn;
 
 // An orbit: its number, the count, the time, the whole numbers by their words, and the doubles.

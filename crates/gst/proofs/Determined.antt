@@ -1,9 +1,16 @@
--- Each call's promise is tight: two answers that its contract permits are equal.
-use mathlib.Core.Path.{_≡_, sym, _∙_}
+-- Each promise is tight: two answers that a contract permits are equal.
+use mathlib.Core.Path.{_≡_, refl, sym, _∙_}
+use mathlib.Core.Bool.{Bool, true, false, not}
 use borrow.Fn.Kinds.{resT, endedOf, Dens}
 use denote.Triple.Clauses.{AtExit}
 use contract.Lifetimes.{Lfts}
 use Rattle.gst.proofs.OneToOne.{new-time-one, start-one, apart-one}
+use Rattle.gst.proofs.tow_too_large.Reads as tow-too-large-reads
+use Rattle.gst.proofs.tow_too_large.Kinds as tow-too-large-kinds
+use Rattle.gst.proofs.not_a_start.Reads as not-a-start-reads
+use Rattle.gst.proofs.not_a_start.Kinds as not-a-start-kinds
+use Rattle.gst.proofs.start_of.Reads as start-of-reads
+use Rattle.gst.proofs.start_of.Kinds as start-of-kinds
 use Rattle.gst.proofs.Gst.add_seconds.Reads as add-seconds-reads
 use Rattle.gst.proofs.Gst.add_seconds.Kinds as add-seconds-kinds
 use Rattle.gst.proofs.Gst.add_subframes.Reads as add-subframes-reads
@@ -20,6 +27,37 @@ use Rattle.gst.proofs.NewTime.add_subframes.Reads as chained-add-subfra
 use Rattle.gst.proofs.NewTime.add_subframes.Kinds as chained-add-subframes-kinds
 use Rattle.gst.proofs.NewTime.gst_subframe.Reads as chained-gst-subframe-reads
 use Rattle.gst.proofs.NewTime.gst_subframe.Kinds as chained-gst-subframe-kinds
+
+-- a test that says the opposite of what the paper's says
+opposite : (b b' : Bool) → not b ≡ not b' → b ≡ b'
+opposite true true e = refl
+opposite true false e = sym e
+opposite false true e = sym e
+opposite false false e = refl
+
+pub tow-too-large-determined :
+    (κs : Lfts 0)
+    (a : Dens κs tow-too-large-kinds.ps)
+    (r r' : resT tow-too-large-kinds.r κs .Denot)
+    (e e' : AtExit (endedOf 0 tow-too-large-kinds.ps tow-too-large-kinds.r) κs)
+    → tow-too-large-reads.Post κs a r e → tow-too-large-reads.Post κs a r' e' → r ≡ r'
+tow-too-large-determined κs a r r' e e' p q = opposite r r' (p ∙ sym q)
+
+pub not-a-start-determined :
+    (κs : Lfts 0)
+    (a : Dens κs not-a-start-kinds.ps)
+    (r r' : resT not-a-start-kinds.r κs .Denot)
+    (e e' : AtExit (endedOf 0 not-a-start-kinds.ps not-a-start-kinds.r) κs)
+    → not-a-start-reads.Post κs a r e → not-a-start-reads.Post κs a r' e' → r ≡ r'
+not-a-start-determined κs a r r' e e' p q = opposite r r' (p ∙ sym q)
+
+pub start-of-determined :
+    (κs : Lfts 0)
+    (a : Dens κs start-of-kinds.ps)
+    (r r' : resT start-of-kinds.r κs .Denot)
+    (e e' : AtExit (endedOf 0 start-of-kinds.ps start-of-kinds.r) κs)
+    → start-of-reads.Post κs a r e → start-of-reads.Post κs a r' e' → r ≡ r'
+start-of-determined κs a r r' e e' p q = p ∙ sym q
 
 pub add-seconds-determined :
     (κs : Lfts 0)

@@ -7,23 +7,23 @@ use Rattle.paper.specs.Number.{Answer, done, refused}
 use Rattle.paper.specs.Time.{Difference, subframes, noDifference}
 use Rattle.gst.specs.Answer.{timeAnswer, startAnswer, apartAnswer}
 use Rattle.gst.specs.declared.NewTime.{NewTime}
-use Rattle.gst.specs.declared.NewTime.the-variants.{Time, NoTime, OutOfRange}
+use Rattle.gst.specs.declared.NewTime.the-variants.{Time, TowTooLarge, TimeArithmetic}
 use Rattle.gst.specs.declared.Start.{Start}
-use Rattle.gst.specs.declared.Start.the-variants.{Yes, No, NoTime as NoStart}
+use Rattle.gst.specs.declared.Start.the-variants.{Yes, No, TowTooLarge as NoStart}
 use Rattle.gst.specs.declared.Apart.{Apart}
-use Rattle.gst.specs.declared.Apart.the-variants.{Subframes, NoTime as NoApart}
+use Rattle.gst.specs.declared.Apart.the-variants.{Subframes, TowTooLarge as NoApart}
 
 -- the new time from its number and values
 abbrev newTimeOf : Answer → NewTime
-newTimeOf (done []) = NoTime
-newTimeOf (done (w ∷ [])) = NoTime
+newTimeOf (done []) = TowTooLarge
+newTimeOf (done (w ∷ [])) = TowTooLarge
 newTimeOf (done (w ∷ t ∷ l)) = Time (record { wn = record { 0 = w }; tow = record { 0 = t } })
-newTimeOf (refused k) = cond (eqb k 5) NoTime OutOfRange
+newTimeOf (refused k) = cond (eqb k 5) TowTooLarge TimeArithmetic
 
 newTimeOf-answerOf : (r : NewTime) → newTimeOf (timeAnswer r) ≡ r
 newTimeOf-answerOf (Time g) = refl
-newTimeOf-answerOf NoTime = refl
-newTimeOf-answerOf OutOfRange = refl
+newTimeOf-answerOf TowTooLarge = refl
+newTimeOf-answerOf TimeArithmetic = refl
 
 pub new-time-one : (r r' : NewTime) → timeAnswer r ≡ timeAnswer r' → r ≡ r'
 new-time-one r r' e = sym (newTimeOf-answerOf r) ∙ ap newTimeOf e ∙ newTimeOf-answerOf r'

@@ -16,15 +16,15 @@ use Rattle.paper.specs.Time.{isTime, isStart, startOf, weekSeconds, lastWeek, s
 use Rattle.gst.specs.Answer.{timeAnswer, startAnswer}
 use Rattle.gst.specs.declared.Gst.{Gst}
 use Rattle.gst.specs.declared.NewTime.{NewTime}
-use Rattle.gst.specs.declared.NewTime.the-variants.{Time, NoTime, OutOfRange}
-use Rattle.gst.specs.declared.Start.the-variants.{Yes, No, NoTime as NoStart}
+use Rattle.gst.specs.declared.NewTime.the-variants.{Time, TowTooLarge, TimeArithmetic}
+use Rattle.gst.specs.declared.Start.the-variants.{Yes, No, TowTooLarge as NoStart}
 use Rattle.gst.proofs.NewTime.{the-type}
 
 -- the arm of `let NewTime::Time(..) = .. else`: the number is not 0
 pub refuses : (r : NewTime) → OneOf (1 ∷ 2 ∷ []) (tagOf the-type r) → eqb (number (timeAnswer r)) 0 ≡ false
 refuses (Time g) k = absurd (⊎-elim (λ e. omega arith) (λ e. omega arith) k)
-refuses NoTime k = refl
-refuses OutOfRange k = refl
+refuses TowTooLarge k = refl
+refuses TimeArithmetic k = refl
 
 -- a cut time: the time asked is one, and this is the start of its subframe
 pub cut-time :

@@ -4,19 +4,19 @@ use mathlib.Core.List.{[], _∷_}
 use Rattle.paper.specs.Number.{Answer, done, refused}
 use Rattle.paper.specs.Time.{Difference, subframes, noDifference, addSeconds, addSubframes, subframeOf}
 use Rattle.gst.specs.declared.NewTime.{NewTime}
-use Rattle.gst.specs.declared.NewTime.the-variants.{Time, NoTime, OutOfRange}
+use Rattle.gst.specs.declared.NewTime.the-variants.{Time, TowTooLarge, TimeArithmetic}
 use Rattle.gst.specs.declared.Start.{Start}
-use Rattle.gst.specs.declared.Start.the-variants.{Yes, No, NoTime as NoStart}
+use Rattle.gst.specs.declared.Start.the-variants.{Yes, No, TowTooLarge as NoStart}
 use Rattle.gst.specs.declared.Apart.{Apart}
-use Rattle.gst.specs.declared.Apart.the-variants.{Subframes, NoTime as NoApart}
+use Rattle.gst.specs.declared.Apart.the-variants.{Subframes, TowTooLarge as NoApart}
 use Rattle.gst.specs.declared.Link.{Link}
 use Rattle.gst.specs.declared.Link.the-variants.{AddSeconds, AddSubframes, Subframe}
 
 -- a new time: 0 with its week and its time of week; 5; 7
 abbrev pub timeAnswer : NewTime → Answer
 timeAnswer (Time g) = done (g .wn .0 ∷ g .tow .0 ∷ [])
-timeAnswer NoTime = refused 5
-timeAnswer OutOfRange = refused 7
+timeAnswer TowTooLarge = refused 5
+timeAnswer TimeArithmetic = refused 7
 
 -- is it a start: 0 with 1 for yes and 0 for no; 5
 abbrev pub startAnswer : Start → Answer
@@ -38,5 +38,5 @@ linked Subframe w t = subframeOf w t
 -- a call on an answer: of the time where there is one, and else the refusal as it came
 abbrev pub chained : NewTime → (ℕ → ℕ → Answer) → Answer
 chained (Time g) call = call (g .wn .0) (g .tow .0)
-chained NoTime call = refused 5
-chained OutOfRange call = refused 7
+chained TowTooLarge call = refused 5
+chained TimeArithmetic call = refused 7

@@ -1,10 +1,11 @@
 // An input of the bench taken as it comes, part by part (STORE 17.8): a reader's state and the room are lent, and the lines for the
 // records that a part makes whole go into a lent output. All zero is the state of a reader at the start.
-use benchlines::UNKNOWN_KIND;
 use lines::Kind;
 use lines::LONGEST_LINE;
 use lines::LONGEST_RECORD;
 use lines::Outcome;
+use refusals::CUT_SHORT;
+use refusals::UNKNOWN_KIND;
 use svn::Svn;
 use text::put_bytes;
 use text::put_hex32;
@@ -30,9 +31,6 @@ const ENDED_AT: usize = LONGEST_RECORD + 1;
 const NUMBER_AT: usize = LONGEST_RECORD + 2;
 
 pub const READER: usize = LONGEST_RECORD + 3;
-
-// bench only: the input ends inside a record
-const CUT_SHORT: u8 = 14;
 
 // what `trace` adds: "# ", eight digits and the line's end
 pub const TRACE: usize = 2 + 8 + 1;

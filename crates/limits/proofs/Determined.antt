@@ -2,13 +2,16 @@
 use borrow.Fn.Kinds.{resT, endedOf, Dens}
 use denote.Triple.Clauses.{AtExit}
 use contract.Lifetimes.{Lfts}
-use mathlib.Core.Path.{_≡_, sym, _∙_}
+use mathlib.Core.Path.{_≡_, refl, sym, _∙_}
+use mathlib.Core.Bool.{Bool, true, false, not}
 use Rattle.limits.proofs.sizes_allowed.Reads as sizes
 use Rattle.limits.proofs.sizes_allowed.Kinds as sizes-kinds
 use Rattle.limits.proofs.rule_known.Reads as rule
 use Rattle.limits.proofs.rule_known.Kinds as rule-kinds
 use Rattle.limits.proofs.fresh_allowed.Reads as fresh
 use Rattle.limits.proofs.fresh_allowed.Kinds as fresh-kinds
+use Rattle.limits.proofs.band_unknown.Reads as band
+use Rattle.limits.proofs.band_unknown.Kinds as band-kinds
 use Rattle.limits.proofs.kind_known.Reads as kind
 use Rattle.limits.proofs.kind_known.Kinds as kind-kinds
 use Rattle.limits.proofs.cop_allowed.Reads as cop
@@ -38,6 +41,18 @@ pub fresh-allowed-determined :
     (κs : Lfts 0) (a : Dens κs fresh-kinds.ps) (r r' : resT fresh-kinds.r κs .Denot)
     (e e' : AtExit (endedOf 0 fresh-kinds.ps fresh-kinds.r) κs) → fresh.Post κs a r e → fresh.Post κs a r' e' → r ≡ r'
 fresh-allowed-determined κs a r r' e e' p q = p ∙ sym q
+
+-- a test that says the opposite of what the paper's says
+opposite : (b b' : Bool) → not b ≡ not b' → b ≡ b'
+opposite true true e = refl
+opposite true false e = sym e
+opposite false true e = sym e
+opposite false false e = refl
+
+pub band-unknown-determined :
+    (κs : Lfts 0) (a : Dens κs band-kinds.ps) (r r' : resT band-kinds.r κs .Denot)
+    (e e' : AtExit (endedOf 0 band-kinds.ps band-kinds.r) κs) → band.Post κs a r e → band.Post κs a r' e' → r ≡ r'
+band-unknown-determined κs a r r' e e' p q = opposite r r' (p ∙ sym q)
 
 pub kind-known-determined :
     (κs : Lfts 0) (a : Dens κs kind-kinds.ps) (r r' : resT kind-kinds.r κs .Denot)

@@ -1,6 +1,7 @@
 // Which numbers a call takes: the sizes of a store, and the numbers that come with a tag. Each test is of its numbers alone.
 ghost use mathlib.Core.Path.{_≡_};
-ghost use mathlib.Core.Bool.{_&&_};
+ghost use mathlib.Core.Bool.{not, _&&_};
+ghost use lib.Dec.{leb};
 ghost use Rattle.paper.specs.Store.{sizesAllowed, ruleKnown};
 ghost use Rattle.paper.specs.Tag.{kindKnown, copAllowed, lengthAllowed, statusKnown, statusAdds};
 use layout::MOST_ROWS;
@@ -9,6 +10,9 @@ use layout::TIME_RULE;
 
 // The bytes of a word.
 pub const WORD_BYTES: usize = 16;
+
+// STORE 5.3: the last band; 0 is E1B
+const E5B: u8 = 1;
 
 // STORE 11.1: the kinds
 const CED_KIND: u8 = 0;
@@ -48,6 +52,13 @@ pub fn fresh_allowed(d: u8, n: u8, rule: u8) -> bool
         return false;
     }
     rule_known(rule)
+}
+
+// STORE 5.3: the bands
+pub fn band_unknown(band: u8) -> bool
+    ensures { λ r. ⌜ not r ≡ leb band 1 ⌝ }
+{
+    band > E5B
 }
 
 // whether a tag of the kind is known

@@ -16,9 +16,7 @@ ghost use Rattle.refusals.specs.Reply.{replyAnswer};
 ghost use Rattle.message.specs.Heads.{headNumber, headFrom};
 ghost use Rattle.message.specs.Outcome.{headOf, builtAnswer, readBackAnswer, lengthsNumber, fieldsNumber};
 use gst::Gst;
-use gst::SUBFRAME_SECONDS;
 use gst::Tow;
-use gst::WEEK_SECONDS;
 use gst::Wn;
 use records::Ced;
 use records::Timing;
@@ -71,9 +69,6 @@ const TIMES: u64 = 1 << TIME_BITS;
 const COUNTERS: u64 = 1 << COUNTER_BITS;
 
 const STATUSES: u64 = 1 << STATUS_BITS;
-
-// STORE 14.1: the number that only reading back answers
-pub const PADDING_SET: u8 = 26;
 
 // What stands in front of the data: the data's satellite, the sender, the time, the tag's counter and the status. A public field can hold
 // any number, so building tests them all. Of a tag 0, which does not carry it, the data's satellite is read as 0.
@@ -169,18 +164,18 @@ fn build_entry(out: &[u8], form: u8, h: Heading, given: &[u8]) -> Reply
         return Reply::Refused(Refusal::NoSatellite);
     }
     let time = h.gst.tow.0;
-    if time >= WEEK_SECONDS {
-        return Reply::Refused(Refusal::NoTime);
+    if gst::tow_too_large(time) {
+        return Reply::Refused(Refusal::TowTooLarge);
     }
-    if time % SUBFRAME_SECONDS != 0 {
+    if gst::not_a_start(time) {
         return Reply::Refused(Refusal::NotAStart);
     }
     if !are_known(form, h.status) {
-        return Reply::Refused(Refusal::Unknown);
+        return Reply::Refused(Refusal::UnknownCode);
     }
     let week = h.gst.wn.0;
     if week > MOST_WEEK {
-        return Reply::Refused(Refusal::OutOfTime);
+        return Reply::Refused(Refusal::TimeArithmetic);
     }
     if !are_allowed(form, h.counter, given.len(), out.len()) {
         return Reply::Refused(Refusal::NotAllowed);
@@ -253,7 +248,7 @@ fn lengths_entry(out: &[u8], form: u8, message: &[u8]) -> Reply
     ensures { λ r. ⌜ replyAnswer r ≡ answer (lengthsNumber form (now (message .entry)) (now (out .entry))) [] ⌝ }
 {
     if form > TIMING_FORM {
-        return Reply::Refused(Refusal::Unknown);
+        return Reply::Refused(Refusal::UnknownCode);
     }
     if message.len() != message_bytes(form) {
         return Reply::Refused(Refusal::NotAllowed);
@@ -285,10 +280,10 @@ fn fields_entry(form: u8, h: Heading) -> Reply
         return Reply::Refused(Refusal::NoSatellite);
     }
     let time = h.gst.tow.0;
-    if time >= WEEK_SECONDS {
-        return Reply::Refused(Refusal::NoTime);
+    if gst::tow_too_large(time) {
+        return Reply::Refused(Refusal::TowTooLarge);
     }
-    if time % SUBFRAME_SECONDS != 0 {
+    if gst::not_a_start(time) {
         return Reply::Refused(Refusal::NotAStart);
     }
     let counter = h.counter;

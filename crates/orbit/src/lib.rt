@@ -146,11 +146,6 @@ const WORD6_AT: usize = 0;
 
 const WORD10_AT: usize = WORD6_AT + Word6::BITS;
 
-// STORE 14.1: the two numbers that only reading an orbit answers
-pub const ISSUES_DIFFER: u8 = 21;
-
-pub const OTHER_SATELLITE: u8 = 22;
-
 // Where the record starts whose data may be read as numbers, its count and its time; or why there is none.
 pub enum Placed {
     At(usize, u16, Gst),

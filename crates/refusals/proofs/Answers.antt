@@ -10,8 +10,8 @@ use Rattle.paper.specs.Number.{Answer, done, refused, number, values, answer}
 use Rattle.paper.specs.Answer.{roomFor, partFor}
 use Rattle.refusals.specs.Reply.{numberOf, replyAnswer}
 use Rattle.refusals.specs.declared.Refusal.{Refusal}
-use Rattle.refusals.specs.declared.Refusal.the-variants.{Sizes, TooShort, NotAStore, NoSatellite, NoTime, NotAStart, OutOfTime, NotAllowed}
-use Rattle.refusals.specs.declared.Refusal.the-variants.{Unknown, NoCandidate, OtherData, NotEnough, Earlier, Dummy, VerdictNo, StatusAddsNothing, AgeUnknown}
+use Rattle.refusals.specs.declared.Refusal.the-variants.{Sizes, TooShort, NotAStore, NoSatellite, TowTooLarge, NotAStart, TimeArithmetic, NotAllowed}
+use Rattle.refusals.specs.declared.Refusal.the-variants.{UnknownCode, NoCandidate, OtherData, NotEnough, Earlier, Dummy, VerdictNo, StatusAddsNothing, AgeUnknown}
 use Rattle.refusals.specs.declared.Reply.{Reply}
 use Rattle.refusals.specs.declared.Reply.the-variants.{Done, Refused}
 
@@ -22,11 +22,11 @@ refusalOf n =
     (cond (eqb n 2) TooShort
     (cond (eqb n 3) NotAStore
     (cond (eqb n 4) NoSatellite
-    (cond (eqb n 5) NoTime
+    (cond (eqb n 5) TowTooLarge
     (cond (eqb n 6) NotAStart
-    (cond (eqb n 7) OutOfTime
+    (cond (eqb n 7) TimeArithmetic
     (cond (eqb n 8) NotAllowed
-    (cond (eqb n 9) Unknown
+    (cond (eqb n 9) UnknownCode
     (cond (eqb n 10) NoCandidate
     (cond (eqb n 11) OtherData
     (cond (eqb n 12) NotEnough
@@ -42,11 +42,11 @@ back Sizes = refl
 back TooShort = refl
 back NotAStore = refl
 back NoSatellite = refl
-back NoTime = refl
+back TowTooLarge = refl
 back NotAStart = refl
-back OutOfTime = refl
+back TimeArithmetic = refl
 back NotAllowed = refl
-back Unknown = refl
+back UnknownCode = refl
 back NoCandidate = refl
 back OtherData = refl
 back NotEnough = refl
@@ -66,11 +66,11 @@ above-zero Sizes = omega arith
 above-zero TooShort = omega arith
 above-zero NotAStore = omega arith
 above-zero NoSatellite = omega arith
-above-zero NoTime = omega arith
+above-zero TowTooLarge = omega arith
 above-zero NotAStart = omega arith
-above-zero OutOfTime = omega arith
+above-zero TimeArithmetic = omega arith
 above-zero NotAllowed = omega arith
-above-zero Unknown = omega arith
+above-zero UnknownCode = omega arith
 above-zero NoCandidate = omega arith
 above-zero OtherData = omega arith
 above-zero NotEnough = omega arith
@@ -86,11 +86,11 @@ never-theirs Sizes = (omega arith, omega arith, omega arith)
 never-theirs TooShort = (omega arith, omega arith, omega arith)
 never-theirs NotAStore = (omega arith, omega arith, omega arith)
 never-theirs NoSatellite = (omega arith, omega arith, omega arith)
-never-theirs NoTime = (omega arith, omega arith, omega arith)
+never-theirs TowTooLarge = (omega arith, omega arith, omega arith)
 never-theirs NotAStart = (omega arith, omega arith, omega arith)
-never-theirs OutOfTime = (omega arith, omega arith, omega arith)
+never-theirs TimeArithmetic = (omega arith, omega arith, omega arith)
 never-theirs NotAllowed = (omega arith, omega arith, omega arith)
-never-theirs Unknown = (omega arith, omega arith, omega arith)
+never-theirs UnknownCode = (omega arith, omega arith, omega arith)
 never-theirs NoCandidate = (omega arith, omega arith, omega arith)
 never-theirs OtherData = (omega arith, omega arith, omega arith)
 never-theirs NotEnough = (omega arith, omega arith, omega arith)

@@ -3,8 +3,8 @@ use Prim.Native.Nat.{ℕ}
 use mathlib.Core.List.{[]}
 use Rattle.paper.specs.Number.{Answer, done, refused}
 use Rattle.refusals.specs.declared.Refusal.{Refusal}
-use Rattle.refusals.specs.declared.Refusal.the-variants.{Sizes, TooShort, NotAStore, NoSatellite, NoTime, NotAStart, OutOfTime, NotAllowed}
-use Rattle.refusals.specs.declared.Refusal.the-variants.{Unknown, NoCandidate, OtherData, NotEnough, Earlier, Dummy, VerdictNo, StatusAddsNothing, AgeUnknown}
+use Rattle.refusals.specs.declared.Refusal.the-variants.{Sizes, TooShort, NotAStore, NoSatellite, TowTooLarge, NotAStart, TimeArithmetic, NotAllowed}
+use Rattle.refusals.specs.declared.Refusal.the-variants.{UnknownCode, NoCandidate, OtherData, NotEnough, Earlier, Dummy, VerdictNo, StatusAddsNothing, AgeUnknown}
 use Rattle.refusals.specs.declared.Reply.{Reply}
 use Rattle.refusals.specs.declared.Reply.the-variants.{Done, Refused}
 
@@ -14,11 +14,11 @@ numberOf Sizes = 1
 numberOf TooShort = 2
 numberOf NotAStore = 3
 numberOf NoSatellite = 4
-numberOf NoTime = 5
+numberOf TowTooLarge = 5
 numberOf NotAStart = 6
-numberOf OutOfTime = 7
+numberOf TimeArithmetic = 7
 numberOf NotAllowed = 8
-numberOf Unknown = 9
+numberOf UnknownCode = 9
 numberOf NoCandidate = 10
 numberOf OtherData = 11
 numberOf NotEnough = 12

@@ -1,7 +1,25 @@
-// STORE 14: why a call refuses, and the reply of a call that has no values beside its number.
+// STORE 14: why a call refuses, and the reply of a call that has no values beside its number. Every number stands here, and only here.
 ghost use mathlib.Core.Path.{_≡_};
 ghost use Prim.Native.Nat.{_<_};
 ghost use Rattle.refusals.specs.Reply.{numberOf};
+
+// The numbers of STORE 14.1 that an input of records alone has, reading an orbit, or reading a message back; who answers one has a case for
+// it beside those below.
+
+// 13: a byte that is no kind of record
+pub const UNKNOWN_KIND: u8 = 13;
+
+// 14: the input ends inside a record
+pub const CUT_SHORT: u8 = 14;
+
+// 21: the IODnav of an orbit differ
+pub const ISSUES_DIFFER: u8 = 21;
+
+// 22: word 4 of an orbit names another satellite
+pub const OTHER_SATELLITE: u8 = 22;
+
+// 26: a bit behind a message's data is set
+pub const PADDING_SET: u8 = 26;
 
 // The refusals of the calls; each has its number in STORE 14.1.
 pub enum Refusal {
@@ -14,15 +32,15 @@ pub enum Refusal {
     // 4: satellite not 1 to 36
     NoSatellite,
     // 5: time of week above 604799
-    NoTime,
+    TowTooLarge,
     // 6: MACK time not a subframe start
     NotAStart,
     // 7: time arithmetic refused
-    OutOfTime,
+    TimeArithmetic,
     // 8: word not 16 bytes; COP or tag length not allowed
     NotAllowed,
     // 9: band, kind or status unknown
-    Unknown,
+    UnknownCode,
     // 10: no candidate
     NoCandidate,
     // 11: given data of another length, or different from the candidate
@@ -56,11 +74,11 @@ pub fn number(why: Refusal) -> u8
         Refusal::TooShort => 2,
         Refusal::NotAStore => 3,
         Refusal::NoSatellite => 4,
-        Refusal::NoTime => 5,
+        Refusal::TowTooLarge => 5,
         Refusal::NotAStart => 6,
-        Refusal::OutOfTime => 7,
+        Refusal::TimeArithmetic => 7,
         Refusal::NotAllowed => 8,
-        Refusal::Unknown => 9,
+        Refusal::UnknownCode => 9,
         Refusal::NoCandidate => 10,
         Refusal::OtherData => 11,
         Refusal::NotEnough => 12,

@@ -12,7 +12,6 @@ ghost use Rattle.paper.specs.Room.{headerSize, headSize, slotSize, rowSize, roo
 ghost use Rattle.store.specs.Slot.{isEmpty, isShared, isPlain};
 ghost use Rattle.paper.specs.Store.{headerInRange, headerRest, recordAllowed, slotAllowed, markAllowed, subframeAllowed, blankAllowed, rowAllowed, isStore};
 use gst::LAST_START;
-use gst::SUBFRAME_SECONDS;
 use layout::CURRENT_AT;
 use layout::DEPTH_AT;
 use layout::HEADER;
@@ -207,7 +206,7 @@ fn subframe_allowed(row: &[u8]) -> bool
     if time > LAST_START {
         return false;
     }
-    time % SUBFRAME_SECONDS == 0
+    !gst::not_a_start(time)
 }
 
 // In a blank row any satellite is one too many.

@@ -66,7 +66,7 @@ pub fn candidate_of(
         return Candidate::Refused(Refusal::NotAllowed);
     }
     if !known {
-        return Candidate::Refused(Refusal::Unknown);
+        return Candidate::Refused(Refusal::UnknownCode);
     }
     match mack.add_seconds(ONE_BEFORE) {
         NewTime::Time(before) => candidate_before(
@@ -77,8 +77,8 @@ pub fn candidate_of(
             before.wn.0,
             before.tow.0,
         ),
-        NewTime::NoTime => Candidate::Refused(Refusal::OutOfTime),
-        NewTime::OutOfRange => Candidate::Refused(Refusal::OutOfTime),
+        NewTime::TowTooLarge => Candidate::Refused(Refusal::TimeArithmetic),
+        NewTime::TimeArithmetic => Candidate::Refused(Refusal::TimeArithmetic),
     }
 }
 

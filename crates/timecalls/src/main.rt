@@ -48,8 +48,8 @@ fn new_time(answer: NewTime) {
             number(gst.tow.0 as u64);
             text(b"\n");
         }
-        NewTime::NoTime => text(b"5\n"),
-        NewTime::OutOfRange => text(b"7\n"),
+        NewTime::TowTooLarge => text(b"5\n"),
+        NewTime::TimeArithmetic => text(b"7\n"),
     }
 }
 
@@ -57,7 +57,7 @@ fn is_start(answer: Start) {
     match answer {
         Start::Yes => text(b"0 1\n"),
         Start::No => text(b"0 0\n"),
-        Start::NoTime => text(b"5\n"),
+        Start::TowTooLarge => text(b"5\n"),
     }
 }
 
@@ -68,7 +68,7 @@ fn apart(answer: Apart) {
             signed(n);
             text(b"\n");
         }
-        Apart::NoTime => text(b"5\n"),
+        Apart::TowTooLarge => text(b"5\n"),
     }
 }
 

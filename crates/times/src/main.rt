@@ -62,8 +62,8 @@ fn new_time(answer: NewTime) {
             text(b" = ");
             time(gst);
         }
-        NewTime::NoTime => text(b": 5"),
-        NewTime::OutOfRange => text(b": 7"),
+        NewTime::TowTooLarge => text(b": 5"),
+        NewTime::TimeArithmetic => text(b": 7"),
     }
     text(b"\n");
 }
@@ -101,7 +101,7 @@ fn start(gst: Gst) {
     match gst.is_subframe() {
         Start::Yes => text(b" yes\n"),
         Start::No => text(b" no\n"),
-        Start::NoTime => text(b": 5\n"),
+        Start::TowTooLarge => text(b": 5\n"),
     }
 }
 
@@ -115,7 +115,7 @@ fn difference(gst: Gst, other: Gst) {
             signed(n);
             text(b" subframes\n");
         }
-        Apart::NoTime => text(b": 5\n"),
+        Apart::TowTooLarge => text(b": 5\n"),
     }
 }
 

@@ -40,8 +40,8 @@ returns-2 c =
     (sym (timed .before .by-time .ensures) ∙ not-false _ (timed .if1 .left))
     (sym (c .before .is-marked .ensures) ∙ not-true _ (c .if2 .taken))
 
-mul-after : tie.Need-mul-after
-mul-after c = search needs
+start-of-requires : tie.Need-start-of-requires
+start-of-requires c κs = search needs
 
 after-requires : tie.Need-after-requires
 after-requires c κs = search needs
@@ -57,17 +57,19 @@ enum-told c = search needs
 
 -- the sign of what the difference says is the answer
 by-sign : (c : tie.After-after) (a : Apart) → c .after .result ≡ a
-    → let args = c .before .before .before .before .before .before .before .before .args in
+    → let args = c .before .before .before .before .before .before .before .before .before .args in
     not (nonNeg (subframesOf (apartAnswer a))) ≡ comesEarlier (args .gst .wn .0) (startOf (args .gst .tow .0)) (args .room .now)
 by-sign c a told =
-    let marked = c .before .before in
+    let test = c .before .before in
+    let marked = test .before in
     let row = marked .before in
     let timed = row .before .before in
     let room = timed .before .before .before .args .room .now in
+    let apart = rw (c .before .start-of .ensures) at (c .after .ensures) in
     marked-earlier _ _ room (row .row .result .now) (row .row .ensures .0 ∙ ap (λ r. rowOf r room) (row .before .current .ensures .0))
     (sym (timed .before .by-time .ensures) ∙ not-false _ (timed .if1 .left))
-    (subframesOf (apartAnswer a)) (ap subframesOf (ap apartAnswer (sym told) ∙ c .after .ensures))
-    (sym (marked .is-marked .ensures) ∙ not-false _ (c .before .if2 .left))
+    (subframesOf (apartAnswer a)) (ap subframesOf (ap apartAnswer (sym told) ∙ apart))
+    (sym (marked .is-marked .ensures) ∙ not-false _ (test .if2 .left))
 
 returns-3 : tie.Need-returns-3
 returns-3 c =
@@ -88,7 +90,7 @@ comes-earlier-spec =
     row-requires
     is-marked-requires
     returns-2
-    mul-after
+    start-of-requires
     after-requires
     enum-known-subframes
     below-zero-requires

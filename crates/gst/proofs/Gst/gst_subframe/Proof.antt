@@ -1,20 +1,26 @@
 -- `gst_subframe`: the time of week is tested first, and then cut as the paper cuts it.
 use borrow.Author.Needs.{needs}
-use borrow.Author.Tests.{le-ltb, lt-ltb}
+use mathlib.Core.Bool.{not}
+use mathlib.Core.Path.{sym, ap, _∙_}
 use Rattle.paper.specs.Time.{subframeOf}
 use Rattle.gst.proofs.Gst.gst_subframe.Statement.{statement}
 use Rattle.gst.proofs.Gst.gst_subframe.Tie as tie
 
+tow-too-large-requires : tie.Need-tow-too-large-requires
+tow-too-large-requires c κs = search needs
+
 returns : tie.Need-returns
 unfolding subframeOf
-returns c = simp (le-ltb _ _ (c .if1 .taken))
+returns c = simp (sym (c .before .tow-too-large .ensures) ∙ ap not (c .if1 .taken))
 
-mul-t6 : tie.Need-mul-t6
-mul-t6 c = search needs
+start-of-requires : tie.Need-start-of-requires
+start-of-requires c κs = search needs
 
 returns-2 : tie.Need-returns-2
 unfolding subframeOf
-returns-2 c = simp (lt-ltb _ _ (c .if1 .left))
+returns-2 c =
+    let time = c .before in
+    simp (sym (time .before .tow-too-large .ensures) ∙ ap not (time .if1 .left), c .start-of .ensures)
 
 pub gst-subframe-spec : {M : Type 1} → statement M
-gst-subframe-spec = tie.close (tie.spec returns mul-t6 returns-2)
+gst-subframe-spec = tie.close (tie.spec tow-too-large-requires returns start-of-requires returns-2)
