@@ -1,14 +1,14 @@
 // Adler-32 of bytes (RFC 1950), by which two rooms are compared.
 ghost use mathlib.Core.Path.{_≡_};
 ghost use Prim.Native.Nat.{_+_, _%_, _<_};
-ghost use Rattle.adler.specs.Adler.{base, adlerOf};
+ghost use Rattle.adler.specs.Adler.{adlerPrime, adlerOf};
 
 const BASE: u32 = 65521;
 
 // A difference is cheaper than a remainder, and a sum of two numbers below the base is below twice the base.
 fn reduced(sum: u32) -> u32
-    requires { ⌜ sum < base + base ⌝ }
-    ensures { λ r. ⌜ r ≡ sum % base ⌝ }
+    requires { ⌜ sum < adlerPrime + adlerPrime ⌝ }
+    ensures { λ r. ⌜ r ≡ sum % adlerPrime ⌝ }
 {
     if sum < BASE {
         return sum;

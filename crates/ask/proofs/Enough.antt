@@ -1,7 +1,7 @@
 -- What the answers of `answering` say of the paper's record that answers, and what is told of it. Assumes nothing.
 use native.Mathlib.Omega.{arith}
 use mathlib.Core.Path.{_≡_, refl, sym, ap, _∙_}
-use mathlib.Core.Bool.{Bool, true, false, _&&_}
+use mathlib.Core.Bool.{Bool, true, false, cond, _&&_}
 use mathlib.Core.List.{List, [], _∷_}
 use Prim.Native.Nat.{ℕ, _+_, _≤_, _<_}
 use borrow.Author.Tests.{lt-ltb, ltb-true}
@@ -20,7 +20,7 @@ use Rattle.paper.proofs.Views.{back-below}
 use Rattle.lookup.specs.Candidate.{placeOf}
 use Rattle.lookup.proofs.Places.{place-inside, place-record}
 use Rattle.ask.specs.declared.Answering.the-variants.{At, Nothing}
-use Rattle.ask.specs.Backward.{pick, placeBack, answeringAt}
+use Rattle.ask.specs.Backward.{placeBack, answeringAt}
 use Rattle.ask.specs.Answered.{askPlace}
 use Rattle.paper.specs.Answer.{askNumber, askAnswer}
 use Rattle.paper.specs.Satellite.{isSatellite}
@@ -48,7 +48,7 @@ module _ (f : Family) (sat : ℕ) (room : List ℕ) where
   no-some e = go (someEnough f sat room) refl e
     where
       go : (b : Bool) → someEnough f sat room ≡ b
-          → pick b (At (rowAt (slots room) (rowAnswering f sat room)) (placeOf f (rowAnswering f sat room) (slotAnswering f sat room) room)) Nothing ≡ Nothing
+          → cond b (At (rowAt (slots room) (rowAnswering f sat room)) (placeOf f (rowAnswering f sat room) (slotAnswering f sat room) room)) Nothing ≡ Nothing
           → someEnough f sat room ≡ false
       go true h q = let z : _≡_ {A = ℕ} 0 1 = cc in absurd (omega arith)
       go false h q = h
@@ -65,7 +65,7 @@ module _ (f : Family) (sat : ℕ) (room : List ℕ) where
     shown = go (someEnough f sat room) refl e
       where
         go : (b : Bool) → someEnough f sat room ≡ b
-            → pick b (At (rowAt (slots room) (rowAnswering f sat room)) (placeOf f (rowAnswering f sat room) (slotAnswering f sat room) room)) Nothing ≡ At row at
+            → cond b (At (rowAt (slots room) (rowAnswering f sat room)) (placeOf f (rowAnswering f sat room) (slotAnswering f sat room) room)) Nothing ≡ At row at
             → (someEnough f sat room ≡ true) × ((row ≡ rowAt (slots room) (rowAnswering f sat room)) × (at ≡ placeOf f (rowAnswering f sat room) (slotAnswering f sat room) room))
         go true h q = (h, (cc, cc))
         go false h q = let z : _≡_ {A = ℕ} 0 1 = cc in absurd (omega arith)

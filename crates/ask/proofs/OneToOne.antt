@@ -2,7 +2,7 @@
 use native.Mathlib.Omega.{arith}
 use mathlib.Core.Path.{_≡_, ap, _∙_}
 use Prim.Native.Nat.{ℕ}
-use Rattle.refusals.specs.Reply.{numberOf}
+use Rattle.refusals.specs.Reply.{refusalNumber}
 use Rattle.refusals.proofs.Answers.{same-refusal}
 use Rattle.ask.specs.declared.Answered.{Answered}
 use Rattle.ask.specs.declared.Answered.the-variants.{Record, Refused}
@@ -24,4 +24,4 @@ answered-one (Record x n g) (Record y m h) e p =
     ∙ ap (answered y m (h .wn .0)) times
 answered-one (Record x n g) (Refused w) e p = absurd (let z : _≡_ {A = ℕ} 0 1 = cc in omega arith)
 answered-one (Refused v) (Record y m h) e p = absurd (let z : _≡_ {A = ℕ} 0 1 = cc in omega arith)
-answered-one (Refused v) (Refused w) e p = let n : numberOf v ≡ numberOf w = cc in ap Refused (same-refusal v w n)
+answered-one (Refused v) (Refused w) e p = let n : refusalNumber v ≡ refusalNumber w = cc in ap Refused (same-refusal v w n)

@@ -8,14 +8,14 @@ use Rattle.paper.specs.Record.{Family}
 use Rattle.paper.specs.Ask.{rowAnswering, slotAnswering}
 use Rattle.paper.specs.Answer.{askNumber}
 use Rattle.lookup.specs.Candidate.{placeOf}
-use Rattle.refusals.specs.Reply.{numberOf}
+use Rattle.refusals.specs.Reply.{refusalNumber}
 use Rattle.ask.specs.declared.Answered.{Answered}
 use Rattle.ask.specs.declared.Answered.the-variants.{Record, Refused}
 
 -- STORE 12.3: the count, and the time less 30 s for each of the least age
 abbrev pub answeredAnswer : Answered → Answer
 answeredAnswer (Record place n gst) = done (n ∷ gst .wn .0 ∷ gst .tow .0 ∷ [])
-answeredAnswer (Refused why) = refused (numberOf why)
+answeredAnswer (Refused why) = refused (refusalNumber why)
 
 -- where the record starts in the room; 0 beside a refusal
 abbrev pub placeAnswered : Answered → ℕ

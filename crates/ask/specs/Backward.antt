@@ -1,6 +1,6 @@
 -- Where the row that answers and its record start in the room.
 use Prim.Native.Nat.{ℕ}
-use mathlib.Core.Bool.{Bool, true, false}
+use mathlib.Core.Bool.{cond}
 use mathlib.Core.List.{List}
 use lib.Dec.{ltb}
 use Rattle.paper.specs.Record.{Family}
@@ -10,19 +10,15 @@ use Rattle.lookup.specs.Candidate.{placeOf}
 use Rattle.ask.specs.declared.Answering.{Answering}
 use Rattle.ask.specs.declared.Answering.the-variants.{At, Nothing}
 
-abbrev pub pick : Bool → Answering → Answering → Answering
-pick true a b = a
-pick false a b = b
-
 -- of the row j before the current one: where it starts, and its first record that answers
 unfoldable pub placeBack : Family → ℕ → ℕ → List ℕ → Answering
 placeBack f sat j room =
     let r = rowBack (depth room) (current room) j in
     let i = enoughSlot f sat (slots room) (rowOf r room) in
-    pick (ltb i (slots room)) (At (rowAt (slots room) r) (placeOf f r i room)) Nothing
+    cond (ltb i (slots room)) (At (rowAt (slots room) r) (placeOf f r i room)) Nothing
 
 unfoldable pub answeringAt : Family → ℕ → List ℕ → Answering
 answeringAt f sat room =
-    pick (someEnough f sat room)
+    cond (someEnough f sat room)
     (At (rowAt (slots room) (rowAnswering f sat room)) (placeOf f (rowAnswering f sat room) (slotAnswering f sat room) room))
     Nothing

@@ -16,7 +16,7 @@ use Rattle.text.specs.Text.{Put}
 use Rattle.text.proofs.Puts.{length-putText, take-put}
 use Rattle.lines.specs.declared.Kind.{Kind}
 use Rattle.lines.specs.declared.Kind.the-variants.{Word, Tag, Reset, Ced, Timing, Fresh, FreshRuled, Unknown}
-use Rattle.benchlines.specs.Records.{wordCall, tagCallOn, recordPart, recordRoom}
+use Rattle.benchlines.specs.Items.{wordCall, tagCallOn, wholeData, wholeRoom}
 
 -- the data of a record, if the number is 0
 data-short : (k : ℕ) (f : Family) (rec : List ℕ) → length (partFor k (dataOf f rec)) ≤ dataBytes CED
@@ -40,7 +40,7 @@ ask-short : (f : Family) (sat : ℕ) (room : List ℕ) → length (askData f sat
 unfolding askData
 ask-short f sat room = data-short (askNumber f sat room) f (answeringRecord f sat room)
 
-pub part-short : (kind : Kind) (body room : List ℕ) → length (recordPart kind body room) ≤ dataBytes CED
+pub part-short : (kind : Kind) (body room : List ℕ) → length (wholeData kind body room) ≤ dataBytes CED
 unfolding wordCall tagCallOn partTo
 part-short Word body room = omega arith
 part-short Tag body room = omega arith
@@ -52,7 +52,7 @@ part-short FreshRuled body room = omega arith
 part-short Unknown body room = omega arith
 
 -- a call that hands out a slice leaves the room as it is
-pub part-after : (kind : Kind) (body room : List ℕ) → recordPart kind body (recordRoom kind body room) ≡ recordPart kind body room
+pub part-after : (kind : Kind) (body room : List ℕ) → wholeData kind body (wholeRoom kind body room) ≡ wholeData kind body room
 unfolding wordCall tagCallOn partTo roomAfter run
 part-after Word body room = refl
 part-after Tag body room = refl

@@ -1,2 +1,2 @@
 -- What the contracts of `benchlines` cite.
-pub mod Records
+pub mod Items

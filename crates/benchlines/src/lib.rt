@@ -23,7 +23,7 @@ ghost use Rattle.refusals.specs.Reply.{replyAnswer};
 ghost use Rattle.tags.specs.Candidates.{taggedAnswer};
 ghost use Rattle.navmessage.specs.Asked.{askedAnswer};
 ghost use Rattle.lines.specs.Lines.{outcomeAnswer, longestLine};
-ghost use Rattle.benchlines.specs.Records.{wordCall, ruledCall, candidateOn, tagCallOn, recordAnswer, recordPart, recordRoom, recordLine};
+ghost use Rattle.benchlines.specs.Items.{wordCall, ruledCall, candidateOn, tagCallOn, wholeAnswer, wholeData, wholeRoom, wholeLine};
 ghost use Rattle.lines.specs.declared.Kind.the-variants.{Word, Tag, Fresh, FreshRuled};
 ghost use Rattle.lines.specs.Kinds.{bodyLength};
 ghost use Rattle.text.specs.Text.{Put};
@@ -171,8 +171,8 @@ fn satellite(body: &[u8]) -> Svn
 // What an item's call answers, and the room after it.
 pub fn outcome(room: &mut [u8], kind: Kind, body: &[u8]) -> Outcome
     requires { ⌜ length (now body) ≡ bodyLength kind ⌝ }
-    ensures { λ r. ⌜ (outcomeAnswer r ≡ recordAnswer kind (now (body .entry)) (now (room .entry)))
-        × (now (room .exit) ≡ recordRoom kind (now (body .entry)) (now (room .entry))) ⌝ }
+    ensures { λ r. ⌜ (outcomeAnswer r ≡ wholeAnswer kind (now (body .entry)) (now (room .entry)))
+        × (now (room .exit) ≡ wholeRoom kind (now (body .entry)) (now (room .entry))) ⌝ }
 {
     match kind {
         Kind::Word => word(room, body),
@@ -189,7 +189,7 @@ pub fn outcome(room: &mut [u8], kind: Kind, body: &[u8]) -> Outcome
 // The slice of the room that an item's call hands out.
 pub fn part<'a>(room: &'a [u8], kind: Kind, body: &[u8]) -> &'a [u8]
     requires { ⌜ length (now body) ≡ bodyLength kind ⌝ }
-    ensures { λ r. ⌜ now r ≡ recordPart kind (now (body .entry)) (now (room .entry)) ⌝ }
+    ensures { λ r. ⌜ now r ≡ wholeData kind (now (body .entry)) (now (room .entry)) ⌝ }
 {
     match kind {
         Kind::Word => &room[..0],
@@ -206,8 +206,8 @@ pub fn part<'a>(room: &'a [u8], kind: Kind, body: &[u8]) -> &'a [u8]
 // The line for a whole item, from a place of `out` on, and the room after it.
 pub fn answer(room: &mut [u8], kind: Kind, body: &[u8], out: &mut [u8], at: usize) -> usize
     requires { ⌜ (length (now body) ≡ bodyLength kind) × (at + longestLine ≤ length (now out)) ⌝ }
-    ensures { λ r. ⌜ (now (room .exit) ≡ recordRoom kind (now (body .entry)) (now (room .entry)))
-        × ((Put (now (out .entry)) at (recordLine kind (now (body .entry)) (now (room .entry))) (now (out .exit)) r) × (r ≤ at + longestLine)) ⌝ }
+    ensures { λ r. ⌜ (now (room .exit) ≡ wholeRoom kind (now (body .entry)) (now (room .entry)))
+        × ((Put (now (out .entry)) at (wholeLine kind (now (body .entry)) (now (room .entry))) (now (out .exit)) r) × (r ≤ at + longestLine)) ⌝ }
 {
     let outcome = outcome(room, kind, body);
     lines::put_line(

@@ -11,7 +11,7 @@ use Rattle.paper.specs.Parts.{Bytes}
 use Rattle.paper.specs.Record.{Family, satellite}
 use Rattle.paper.specs.Room.{recordOf}
 use Rattle.paper.specs.Feed.{unclaimedKey, ownKey, chosen}
-use Rattle.choice.specs.Cases.{hasSatellite, ageOf, hasAge, oldestAge, lastOwn, lastUnclaimed, lastOldest, orElse, threeCases}
+use Rattle.choice.specs.Cases.{hasSatellite, slotAge, hasAge, oldestAge, lastOwn, lastUnclaimed, lastOldest, orElse, threeCases}
 use Rattle.choice.specs.declared.Slot.{Slot}
 use Rattle.choice.specs.declared.Slot.the-variants.{At, Nowhere}
 use Rattle.choice.proofs.Search.{last-none}
@@ -45,10 +45,10 @@ module _ (f : Family) (sat n : ℕ) (row : List ℕ) (b : Bytes row) where
   is-oldest : (i : ℕ) → lastOwn f sat n row ≡ Nowhere → lastUnclaimed f n row ≡ Nowhere → lastOldest f n row ≡ At i → chosen f sat n row ≡ i
   unfolding chosen
   is-oldest i o u e =
-      let aged : (j : ℕ) → j < n → keysOf f sat row j ≡ ageOf f row j = λ j g. key-age f sat (recordOf f j row) (others o j g) (claimed u j g) in
+      let aged : (j : ℕ) → j < n → keysOf f sat row j ≡ slotAge f row j = λ j g. key-age f sat (recordOf f j row) (others o j g) (claimed u j g) in
       last-is-greatest (hasAge f (oldestAge f n row) row) (keysOf f sat row) (oldestAge f n row) n
       (λ j g t. aged j g ∙ eqb-true _ _ t)
-      (λ j g t. rw (aged j g) (omega (arith, none-older f row n j g, eqb-false (ageOf f row j) (oldestAge f n row) t)))
+      (λ j g t. rw (aged j g) (omega (arith, none-older f row n j g, eqb-false (slotAge f row j) (oldestAge f n row) t)))
       n i (omega arith) e .0
 
 -- ---- the theorem

@@ -4,7 +4,7 @@ use native.Mathlib.Omega.{arith}
 use native.Mathlib.Decide.{ℕ-discrete}
 use mathlib.Core.Path.{_≡_, refl, _∙_}
 use mathlib.Core.Logic.{_≢_}
-use mathlib.Core.Bool.{Bool, true, false}
+use mathlib.Core.Bool.{Bool, true, false, cond}
 use mathlib.Core.List.{List, [], _∷_}
 use Prim.Native.Nat.{ℕ, zero, suc, _≤_, _<_}
 use borrow.Author.Tests.{le-leb, lt-leb, eq-eqb, ne-eqb}
@@ -14,7 +14,7 @@ use Rattle.paper.specs.Room.{recordAt, recordOf}
 use Rattle.paper.specs.Feed.{unclaimedKey, ownKey, key, lastGreatest}
 use Rattle.paper.proofs.Bytes.{bytes-part}
 use Rattle.paper.proofs.Lengths.{lastGreatest-lt}
-use Rattle.choice.specs.Last.{lastOf, pick}
+use Rattle.choice.specs.Last.{lastOf}
 use Rattle.choice.specs.declared.Slot.the-variants.{At}
 
 -- "the last of equals": a key that is no less takes the place of the best before it
@@ -48,7 +48,7 @@ module _ (p : ℕ → Bool) (k : ℕ → ℕ) (m most : ℕ)
   last-is-greatest (suc n) j h e = go (last-is-greatest n j (omega arith)) (p n) refl e
     where
       go : (lastOf p n ≡ At j → (lastGreatest k n ≡ j) × ((j < n) × (k j ≡ m)))
-          → (b : Bool) → p n ≡ b → pick b (At n) (lastOf p n) ≡ At j → (lastGreatest k (suc n) ≡ j) × ((j < suc n) × (k j ≡ m))
+          → (b : Bool) → p n ≡ b → cond b (At n) (lastOf p n) ≡ At j → (lastGreatest k (suc n) ≡ j) × ((j < suc n) × (k j ≡ m))
       go before true t f =
           let q : n ≡ j = cc in
           let g : k n ≡ m = yes-key n (omega arith) t in

@@ -2,23 +2,23 @@
 use native.Mathlib.Omega.{arith}
 use native.Mathlib.Decide.{ℕ-discrete}
 use mathlib.Core.Path.{_≡_, refl, sym, ap, _∙_}
-use mathlib.Core.Bool.{Bool, true, false}
+use mathlib.Core.Bool.{Bool, true, false, cond}
 use Prim.Native.Nat.{ℕ, zero, suc, _-_, _<_}
-use Rattle.choice.specs.Last.{lastOf, pick}
+use Rattle.choice.specs.Last.{lastOf}
 use Rattle.choice.specs.declared.Slot.{Slot}
 use Rattle.choice.specs.declared.Slot.the-variants.{At, Nowhere}
 
 -- ---- a turn, and the end
-step : (p : ℕ → Bool) (left : ℕ) → 0 < left → lastOf p left ≡ pick (p (left - 1)) (At (left - 1)) (lastOf p (left - 1))
+step : (p : ℕ → Bool) (left : ℕ) → 0 < left → lastOf p left ≡ cond (p (left - 1)) (At (left - 1)) (lastOf p (left - 1))
 unfolding lastOf
 step p zero h = absurd (omega arith)
 step p (suc n) h = let q : suc n - 1 ≡ n = omega arith in rw q
 
 pub last-here : (p : ℕ → Bool) (left : ℕ) (r : Slot) → r ≡ lastOf p left → 0 < left → p (left - 1) ≡ true → At (left - 1) ≡ r
-last-here p left r e h t = sym (e ∙ step p left h ∙ ap (λ (b : Bool). pick b (At (left - 1)) (lastOf p (left - 1))) t)
+last-here p left r e h t = sym (e ∙ step p left h ∙ ap (λ (b : Bool). cond b (At (left - 1)) (lastOf p (left - 1))) t)
 
 pub last-on : (p : ℕ → Bool) (left : ℕ) (r : Slot) → r ≡ lastOf p left → 0 < left → p (left - 1) ≡ false → r ≡ lastOf p (left - 1)
-last-on p left r e h t = e ∙ step p left h ∙ ap (λ (b : Bool). pick b (At (left - 1)) (lastOf p (left - 1))) t
+last-on p left r e h t = e ∙ step p left h ∙ ap (λ (b : Bool). cond b (At (left - 1)) (lastOf p (left - 1))) t
 
 pub last-nowhere : (p : ℕ → Bool) (left : ℕ) (r : Slot) → r ≡ lastOf p left → left ≡ 0 → Nowhere ≡ r
 unfolding lastOf
@@ -31,7 +31,7 @@ last-none p zero e i h = absurd (omega arith)
 last-none p (suc n) e i h = go (λ q g. last-none p n q i g) (p n) refl e (ℕ-discrete i n)
   where
     go : (lastOf p n ≡ Nowhere → i < n → p i ≡ false)
-        → (b : Bool) → p n ≡ b → pick b (At n) (lastOf p n) ≡ Nowhere → Dec (i ≡ n) → p i ≡ false
+        → (b : Bool) → p n ≡ b → cond b (At n) (lastOf p n) ≡ Nowhere → Dec (i ≡ n) → p i ≡ false
     go before true t q d = let z : _≡_ {A = ℕ} 0 1 = cc in absurd (omega arith)
     go before false t q (yes d) = rw d t
     go before false t q (no d) = before q (omega arith)
@@ -54,7 +54,7 @@ unfolding lastOf
 last-says p zero i e = let z : _≡_ {A = ℕ} 0 1 = cc in absurd (omega arith)
 last-says p (suc n) i e = go (last-says p n i) (p n) refl e
   where
-    go : (lastOf p n ≡ At i → LastAt p n i) → (b : Bool) → p n ≡ b → pick b (At n) (lastOf p n) ≡ At i → LastAt p (suc n) i
+    go : (lastOf p n ≡ At i → LastAt p n i) → (b : Bool) → p n ≡ b → cond b (At n) (lastOf p n) ≡ At i → LastAt p (suc n) i
     go before true t q =
         let d : n ≡ i = cc in
         record { inside = omega arith; has = rw (← d) t; none-behind = λ j g l. absurd (omega arith) }
@@ -65,7 +65,7 @@ unfolding lastOf
 last-is p zero i l = absurd (omega (arith, l .inside))
 last-is p (suc n) i l = go (last-is p n i) (ℕ-discrete i n)
   where
-    go : (LastAt p n i → lastOf p n ≡ At i) → Dec (i ≡ n) → pick (p n) (At n) (lastOf p n) ≡ At i
+    go : (LastAt p n i → lastOf p n ≡ At i) → Dec (i ≡ n) → cond (p n) (At n) (lastOf p n) ≡ At i
     go before (yes d) = let t : p n ≡ true = rw (← d) (l .has) in rw (t, d)
     go before (no d) =
         let inside : i < n = omega (arith, l .inside) in

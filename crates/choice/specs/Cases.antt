@@ -14,21 +14,21 @@ abbrev pub hasSatellite : Family → ℕ → List ℕ → ℕ → Bool
 hasSatellite f sat row i = eqb (satellite (recordOf f i row)) sat
 
 -- how old the record of slot i is: its greatest age
-abbrev pub ageOf : Family → List ℕ → ℕ → ℕ
-ageOf f row i = greatest (agesOf f (recordOf f i row))
+abbrev pub slotAge : Family → List ℕ → ℕ → ℕ
+slotAge f row i = greatest (agesOf f (recordOf f i row))
 
 -- slot i has a record that is so old
 abbrev pub hasAge : Family → ℕ → List ℕ → ℕ → Bool
-hasAge f age row i = eqb (ageOf f row i) age
+hasAge f age row i = eqb (slotAge f row i) age
 
 -- slot i has an older record than this slot
 abbrev pub isOlder : Family → ℕ → List ℕ → ℕ → Bool
-isOlder f slot row i = ltb (ageOf f row slot) (ageOf f row i)
+isOlder f slot row i = ltb (slotAge f row slot) (slotAge f row i)
 
 -- how old the oldest of the first n records is
 unfoldable pub oldestAge : Family → ℕ → List ℕ → ℕ
 oldestAge f zero row = 0
-oldestAge f (suc n) row = max (oldestAge f n row) (ageOf f row n)
+oldestAge f (suc n) row = max (oldestAge f n row) (slotAge f row n)
 
 -- the last of this satellite's records
 abbrev pub lastOwn : Family → ℕ → ℕ → List ℕ → Slot

@@ -1,6 +1,6 @@
 -- The last of the first n places that has a property, as this crate's answer.
 use Prim.Native.Nat.{ℕ, zero, suc, _+_}
-use mathlib.Core.Bool.{Bool, true, false}
+use mathlib.Core.Bool.{Bool, cond}
 use mathlib.Core.List.{List}
 use lib.ListN.{getD}
 use lib.Dec.{eqb}
@@ -8,13 +8,9 @@ use Rattle.paper.specs.Room.{slotAt}
 use Rattle.choice.specs.declared.Slot.{Slot}
 use Rattle.choice.specs.declared.Slot.the-variants.{At, Nowhere}
 
-abbrev pub pick : Bool → Slot → Slot → Slot
-pick true a b = a
-pick false a b = b
-
 unfoldable pub lastOf : (ℕ → Bool) → ℕ → Slot
 lastOf p zero = Nowhere
-lastOf p (suc n) = pick (p n) (At n) (lastOf p n)
+lastOf p (suc n) = cond (p n) (At n) (lastOf p n)
 
 -- slot i of a row has the satellite at its byte `at`
 abbrev pub isOf : List ℕ → ℕ → ℕ → ℕ → Bool

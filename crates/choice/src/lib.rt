@@ -8,7 +8,7 @@ ghost use Rattle.paper.specs.Record.{familyIf, CED, Timing as TIMING};
 ghost use Rattle.paper.specs.Room.{mostSlots, slotSize, rowSize};
 ghost use Rattle.paper.specs.Feed.{chosen};
 ghost use Rattle.choice.specs.Last.{isOf, lastOf};
-ghost use Rattle.choice.specs.Cases.{ageOf, isOlder, lastOldest};
+ghost use Rattle.choice.specs.Cases.{slotAge, isOlder, lastOldest};
 use records::Ced;
 use records::SATELLITE_AT;
 use records::Timing;
@@ -44,7 +44,7 @@ fn last_of(row: &[u8], at: usize, n: usize, sat: u8) -> Slot
 // How old the record of slot i is: its greatest age.
 fn age_of(row: &[u8], timing: bool, i: usize) -> u8
     requires { ⌜ (i < mostSlots) × (rowSize (i + 1) ≤ length (now row)) ⌝ }
-    ensures { λ r. ⌜ r ≡ ageOf (familyIf timing) (now (row .entry)) i ⌝ }
+    ensures { λ r. ⌜ r ≡ slotAge (familyIf timing) (now (row .entry)) i ⌝ }
 {
     let at = rows::record_start(timing, i);
     if timing {

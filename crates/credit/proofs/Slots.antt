@@ -52,9 +52,9 @@ module _ (f : Family) (sat : ℕ) (given : List ℕ) (l : ℕ) (slot : List ℕ)
       (sym (onPart-none (credited f sat given l) (base f) (size f) slot (rw m)), rw m)
 
   -- another satellite
-  pub other : (getD slot (base f + satelliteAt) 0 ≡ sat → ⊥) → (slot ≡ inSlot f (credited f sat given l) slot) × (0 ≡ takes f sat given slot)
+  pub of-another : (getD slot (base f + satelliteAt) 0 ≡ sat → ⊥) → (slot ≡ inSlot f (credited f sat given l) slot) × (0 ≡ takes f sat given slot)
   unfolding matches
-  other d = skips (rw (ne-eqb (satellite rec) sat (λ e. d (sym at-base ∙ e))))
+  of-another d = skips (rw (ne-eqb (satellite rec) sat (λ e. d (sym at-base ∙ e))))
 
   -- other bits
   pub differs : sameBits f (part (base f + dataAt f) (dataBytes f) slot) given ≡ false
@@ -63,11 +63,11 @@ module _ (f : Family) (sat : ℕ) (given : List ℕ) (l : ℕ) (slot : List ℕ)
   differs d = skips (rw (at-data, d) (and-false (eqb (satellite rec) sat)))
 
   -- this satellite and these bits
-  pub agrees : (out : List ℕ) → getD slot (base f + satelliteAt) 0 ≡ sat → sameBits f (part (base f + dataAt f) (dataBytes f) slot) given ≡ true
+  pub agrees-all : (out : List ℕ) → getD slot (base f + satelliteAt) 0 ≡ sat → sameBits f (part (base f + dataAt f) (dataBytes f) slot) given ≡ true
       → out ≡ onPart (λ (r : List ℕ). withCount (min mostCount (count r + l)) r) (base f) (size f) slot
       → (out ≡ inSlot f (credited f sat given l) slot) × (1 ≡ takes f sat given slot)
   unfolding matches credited
-  agrees out s d o =
+  agrees-all out s d o =
       let m : matches f sat given rec ≡ true = rw (at-data, d, eq-eqb (satellite rec) sat (at-base ∙ s)) in
       (o ∙ onPart-by (λ (r : List ℕ). withCount (min mostCount (count r + l)) r) (credited f sat given l) (base f) (size f) slot (rw m), rw m)
 
@@ -78,7 +78,7 @@ module _ (f : Family) (sat : ℕ) (given : List ℕ) (l : ℕ) (slot : List ℕ)
   data-lent = let e : a + s - (a + q) ≡ dataBytes f = omega arith in rw (e, ea, eq)
 
   pub other-lent : (getD slot (a + satelliteAt) 0 ≡ sat → ⊥) → (slot ≡ inSlot f (credited f sat given l) slot) × (0 ≡ takes f sat given slot)
-  other-lent d = other f sat given l slot (rw ea at d)
+  other-lent d = of-another f sat given l slot (rw ea at d)
 
   pub differs-lent : (r : Bool) → r ≡ sameBits f (take (a + s - (a + q)) (drop (a + q) slot)) given → r ≡ false
       → (slot ≡ inSlot f (credited f sat given l) slot) × (0 ≡ takes f sat given slot)
@@ -88,7 +88,7 @@ module _ (f : Family) (sat : ℕ) (given : List ℕ) (l : ℕ) (slot : List ℕ)
       → y ≡ withCount (min mostCount (count (take (a + s - a) (drop a slot)) + l)) (take (a + s - a) (drop a slot))
       → (take a slot ++ (y ++ drop (a + s - a) (drop a slot)) ≡ inSlot f (credited f sat given l) slot) × (1 ≡ takes f sat given slot)
   agrees-lent r y h e t p =
-      agrees f sat given l slot (take a slot ++ (y ++ drop (a + s - a) (drop a slot))) (rw ea at h)
+      agrees-all f sat given l slot (take a slot ++ (y ++ drop (a + s - a) (drop a slot))) (rw ea at h)
       (ap (λ (x : List ℕ). sameBits f x given) (sym data-lent) ∙ sym e ∙ t)
       (part-back-at (λ (r : List ℕ). withCount (min mostCount (count r + l)) r) a s slot y p ∙ rw (ea, es))
 

@@ -12,7 +12,7 @@ use lib.Pow.{pow-add, shl-lt}
 use lib.Ieee.{binary64, size, odd, ofBits, ofFields}
 use lib.Ieee.Digits.{size-lt, size-le, size-reaches}
 use lib.Ieee.Exact.{HasValue}
-use Rattle.paper.specs.Double.{Says, signBit, exponent, fraction, bitsFor, doubleBits, double}
+use Rattle.paper.specs.Double.{BitsSay, signBit, exponent, fraction, bitsFor, doubleBits, double}
 use Rattle.doubles.proofs.Values.{powers, pattern-value}
 
 -- a number of at most p + 1 binary digits, brought to all of them
@@ -58,7 +58,7 @@ module _ (s n k : ℕ) (sign : s ≤ 1) (some : 0 < n) (small : n < 900719925474
       let d = led 52 n some small in
       pieces s (1022 + size n - k) (n * 2 ^ (53 - size n) - 2 ^ 52) sign (omega arith) (omega arith)
 
-  pub bits-say : Says (bitsFor s n k) s n k
+  pub bits-say : BitsSay (bitsFor s n k) s n k
   bits-say =
       let d = led 52 n some small in
       let f = its-pieces in

@@ -10,8 +10,8 @@ use Rattle.paper.specs.Call.{run}
 use Rattle.paper.proofs.Opens.{callsOpen}
 use Rattle.paper.proofs.StoreFacts.{both-true}
 use Rattle.history.specs.Line.{at, fills, resets, same, broken, begins, counted, tags, tagsAlong, total}
-use Rattle.earned.specs.Examples.{Row, Every, every, fresh, word, two, five, clock, newClock, orbit, newOrbit, forty, sums, copies}
-use Rattle.earned.specs.Examples.{sevens, breaks, apart, tagFirst, changeFirst, nextTag, question, table, printed, begun, tagsBefore, tagsAfter, oneRow, sixDone, page}
+use Rattle.earned.specs.Examples.{Row, Every, every, freshOn, word, two, five, clock, newClock, orbit, newOrbit, forty, sums, copies}
+use Rattle.earned.specs.Examples.{sevens, breaks, apart, tagFirst, changeFirst, nextTag, question, earnedTable, printed, pageBegins, tagsBefore, tagsAfter, oneRow, sixDone, page}
 
 each : (rows : List Row) → every rows ≡ true → Every rows
 unfolding every
@@ -25,21 +25,21 @@ each (r ∷ rs) e =
 
 -- what the checker opens: the rows, and the line of a record
 unfoldable pub rowsOpen : Unit {0}
-unfolding every table fresh word two five clock newClock orbit newOrbit forty sums copies breaks apart tagFirst changeFirst nextTag question
+unfolding every earnedTable freshOn word two five clock newClock orbit newOrbit forty sums copies breaks apart tagFirst changeFirst nextTag question
 rowsOpen = tt
 
 unfoldable pub lineOpen : Unit {0}
 unfolding fills resets same broken begins counted tagsAlong total
 lineOpen = tt
 
-computed : every table ≡ true
+computed : every earnedTable ≡ true
 unfolding rowsOpen lineOpen callsOpen
 computed = refl
 
-pub examples : Every table
-examples = each table computed
+pub examples : Every earnedTable
+examples = each earnedTable computed
 
 -- the bench input of docs/ANSWER.md gives the lines of that page
 pub answer-page : printed sevens (tagsBefore ++ (tagsAfter ++ oneRow)) ≡ page
-unfolding printed begun tagsBefore tagsAfter oneRow sixDone page word orbit newOrbit callsOpen
+unfolding printed pageBegins tagsBefore tagsAfter oneRow sixDone page word orbit newOrbit callsOpen
 answer-page = refl

@@ -40,8 +40,8 @@ abbrev pub sevens : List ℕ
 sevens = replicate (roomSize 2 1 + 6) 7
 
 -- a fresh store of D rows and N slots on it
-unfoldable pub fresh : ℕ → ℕ → List ℕ
-fresh d n = roomAfter (freshCall d n 0) sevens
+unfoldable pub freshOn : ℕ → ℕ → List ℕ
+freshOn d n = roomAfter (freshCall d n 0) sevens
 
 abbrev row : List ℕ → List Call → Place → ℕ → ℕ → Row
 row start calls place counted sum = record { start = start; calls = calls; place = place; counted = counted; sum = sum }
@@ -110,55 +110,55 @@ many (suc k) = tag 4 1 40 T30 clock ∷ many k
 -- counts of 0, 20, 40 and 60
 unfoldable pub sums : List Row
 sums =
-    row (fresh 2 1) [] (timing 0 0) 0 0
-    ∷ row (fresh 2 1) (two 1) (timing 0 0) 0 0
-    ∷ row (fresh 2 1) (tag 4 1 20 T30 clock ∷ two 1) (timing 0 0) 20 20
-    ∷ row (fresh 2 1) (tag 4 1 20 T30 clock ∷ tag 4 1 20 T30 clock ∷ two 1) (timing 0 0) 40 40
-    ∷ row (fresh 2 1) (tag 4 1 20 T30 clock ∷ forty) (timing 0 0) 60 60
+    row (freshOn 2 1) [] (timing 0 0) 0 0
+    ∷ row (freshOn 2 1) (two 1) (timing 0 0) 0 0
+    ∷ row (freshOn 2 1) (tag 4 1 20 T30 clock ∷ two 1) (timing 0 0) 20 20
+    ∷ row (freshOn 2 1) (tag 4 1 20 T30 clock ∷ tag 4 1 20 T30 clock ∷ two 1) (timing 0 0) 40 40
+    ∷ row (freshOn 2 1) (tag 4 1 20 T30 clock ∷ forty) (timing 0 0) 60 60
     ∷ []
 
 -- a line through copied rows: to row 1, and on to row 0, whose own past is gone; a tag in between counts in both rows
 unfoldable pub copies : List Row
 copies =
-    row (fresh 2 1) (feed 1 0 0 T30 ∷ forty) (timing 1 0) 40 40
-    ∷ row (fresh 2 1) (tag 4 2 20 T60 clock ∷ feed 1 0 0 T30 ∷ forty) (timing 0 0) 60 60
-    ∷ row (fresh 2 1) (tag 4 2 20 T60 clock ∷ feed 1 0 0 T30 ∷ forty) (timing 1 0) 60 60
-    ∷ row (fresh 2 1) (feed 1 0 0 T60 ∷ feed 1 0 0 T30 ∷ forty) (timing 0 0) 40 40
-    ∷ row (fresh 2 1) (feed 1 0 0 T60 ∷ feed 1 10 255 T30 ∷ forty) (timing 0 0) 0 0
+    row (freshOn 2 1) (feed 1 0 0 T30 ∷ forty) (timing 1 0) 40 40
+    ∷ row (freshOn 2 1) (tag 4 2 20 T60 clock ∷ feed 1 0 0 T30 ∷ forty) (timing 0 0) 60 60
+    ∷ row (freshOn 2 1) (tag 4 2 20 T60 clock ∷ feed 1 0 0 T30 ∷ forty) (timing 1 0) 60 60
+    ∷ row (freshOn 2 1) (feed 1 0 0 T60 ∷ feed 1 0 0 T30 ∷ forty) (timing 0 0) 40 40
+    ∷ row (freshOn 2 1) (feed 1 0 0 T60 ∷ feed 1 10 255 T30 ∷ forty) (timing 0 0) 0 0
     -- D 1: the one row is copied to itself
-    ∷ row (fresh 1 1) (feed 1 0 0 T30 ∷ forty) (timing 0 0) 40 40
+    ∷ row (freshOn 1 1) (feed 1 0 0 T30 ∷ forty) (timing 0 0) 40 40
     ∷ []
 
 -- breaks
 unfoldable pub breaks : List Row
 breaks =
     -- a takeover: E02 takes the record with the bits of E01; then E01 takes it back
-    row (fresh 2 1) (feed 2 0 0 T ∷ forty) (timing 0 0) 0 0
-    ∷ row (fresh 2 1) (feed 1 0 0 T ∷ feed 2 0 0 T ∷ forty) (timing 0 0) 0 0
+    row (freshOn 2 1) (feed 2 0 0 T ∷ forty) (timing 0 0) 0 0
+    ∷ row (freshOn 2 1) (feed 1 0 0 T ∷ feed 2 0 0 T ∷ forty) (timing 0 0) 0 0
     -- the same word again is none; a changed bit is one, and the tags begin anew; so is a bit changed and changed back
-    ∷ row (fresh 2 1) (feed 1 10 0 T ∷ forty) (timing 0 0) 40 40
-    ∷ row (fresh 2 1) (feed 1 10 255 T ∷ forty) (timing 0 0) 0 0
-    ∷ row (fresh 2 1) (tag 4 1 20 T30 newClock ∷ feed 1 10 255 T ∷ forty) (timing 0 0) 20 20
-    ∷ row (fresh 2 1) (feed 1 10 0 T ∷ feed 1 10 255 T ∷ forty) (timing 0 0) 0 0
+    ∷ row (freshOn 2 1) (feed 1 10 0 T ∷ forty) (timing 0 0) 40 40
+    ∷ row (freshOn 2 1) (feed 1 10 255 T ∷ forty) (timing 0 0) 0 0
+    ∷ row (freshOn 2 1) (tag 4 1 20 T30 newClock ∷ feed 1 10 255 T ∷ forty) (timing 0 0) 20 20
+    ∷ row (freshOn 2 1) (feed 1 10 0 T ∷ feed 1 10 255 T ∷ forty) (timing 0 0) 0 0
     -- a reset, and a tag after it
-    ∷ row (fresh 2 1) (resetCall ∷ forty) (timing 0 0) 0 0
-    ∷ row (fresh 2 1) (tag 4 1 20 T30 clock ∷ resetCall ∷ forty) (timing 0 0) 20 20
+    ∷ row (freshOn 2 1) (resetCall ∷ forty) (timing 0 0) 0 0
+    ∷ row (freshOn 2 1) (tag 4 1 20 T30 clock ∷ resetCall ∷ forty) (timing 0 0) 20 20
     -- a second fresh, of another D and N; one that is refused
-    ∷ row (fresh 2 1) (two 1 ++ (freshCall 1 2 0 ∷ forty)) (timing 0 1) 0 0
-    ∷ row (fresh 2 1) (freshCall 0 1 0 ∷ forty) (timing 0 0) 40 40
+    ∷ row (freshOn 2 1) (two 1 ++ (freshCall 1 2 0 ∷ forty)) (timing 0 1) 0 0
+    ∷ row (freshOn 2 1) (freshCall 0 1 0 ∷ forty) (timing 0 0) 40 40
     ∷ []
 
 -- a tag counts where satellite, family and bits are its own, and there alone
 unfoldable pub apart : List Row
 apart =
     -- E01 and E02 with the same bits
-    row (fresh 1 2) (two 2 ++ forty) (timing 0 1) 40 40
-    ∷ row (fresh 1 2) (two 2 ++ forty) (timing 0 0) 0 0
-    ∷ row (fresh 1 2) (tag 4 1 40 T30 clock ∷ (two 2 ++ two 1)) (timing 0 0) 0 0
+    row (freshOn 1 2) (two 2 ++ forty) (timing 0 1) 40 40
+    ∷ row (freshOn 1 2) (two 2 ++ forty) (timing 0 0) 0 0
+    ∷ row (freshOn 1 2) (tag 4 1 40 T30 clock ∷ (two 2 ++ two 1)) (timing 0 0) 0 0
     -- a timing tag and a CED tag, each on its own record; a tag of no verdict on none
-    ∷ row (fresh 2 1) (tag 0 1 32 T30 orbit ∷ (five 1 ++ forty)) (timing 0 0) 40 40
-    ∷ row (fresh 2 1) (tag 0 1 32 T30 orbit ∷ (five 1 ++ forty)) (ced 0 0) 32 32
-    ∷ row (fresh 2 1) (tagCall 1 4 1 40 2 1177 T30 clock false ∷ forty) (timing 0 0) 40 40
+    ∷ row (freshOn 2 1) (tag 0 1 32 T30 orbit ∷ (five 1 ++ forty)) (timing 0 0) 40 40
+    ∷ row (freshOn 2 1) (tag 0 1 32 T30 orbit ∷ (five 1 ++ forty)) (ced 0 0) 32 32
+    ∷ row (freshOn 2 1) (tagCall 1 4 1 40 2 1177 T30 clock false ∷ forty) (timing 0 0) 40 40
     ∷ []
 
 -- the question of docs/ANSWER.md: the five words of an orbit at T, the fifth changed at T + 30 s, and a tag of 40
@@ -177,26 +177,26 @@ nextTag cop = tag 0 cop 20 T60 newOrbit ∷ changeFirst 1
 unfoldable pub question : List Row
 question =
     -- the old bits keep their tag in row 0, the new bits in row 1 have none; COP 1 and 2 alike
-    row (fresh 2 1) (tagFirst 1) (ced 0 0) 40 40
-    ∷ row (fresh 2 1) (tagFirst 1) (ced 1 0) 0 0
-    ∷ row (fresh 2 1) (tagFirst 2) (ced 0 0) 40 40
-    ∷ row (fresh 2 1) (tagFirst 2) (ced 1 0) 0 0
-    ∷ row (fresh 2 1) (changeFirst 1) (ced 0 0) 40 40
-    ∷ row (fresh 2 1) (changeFirst 1) (ced 1 0) 0 0
-    ∷ row (fresh 2 1) (changeFirst 2) (ced 0 0) 40 40
-    ∷ row (fresh 2 1) (changeFirst 2) (ced 1 0) 0 0
+    row (freshOn 2 1) (tagFirst 1) (ced 0 0) 40 40
+    ∷ row (freshOn 2 1) (tagFirst 1) (ced 1 0) 0 0
+    ∷ row (freshOn 2 1) (tagFirst 2) (ced 0 0) 40 40
+    ∷ row (freshOn 2 1) (tagFirst 2) (ced 1 0) 0 0
+    ∷ row (freshOn 2 1) (changeFirst 1) (ced 0 0) 40 40
+    ∷ row (freshOn 2 1) (changeFirst 1) (ced 1 0) 0 0
+    ∷ row (freshOn 2 1) (changeFirst 2) (ced 0 0) 40 40
+    ∷ row (freshOn 2 1) (changeFirst 2) (ced 1 0) 0 0
     -- the tag for the new bits: with COP 1 there is no candidate, with COP 2 it counts on the new bits and not on the old ones
-    ∷ row (fresh 2 1) (nextTag 1) (ced 1 0) 0 0
-    ∷ row (fresh 2 1) (nextTag 2) (ced 0 0) 40 40
-    ∷ row (fresh 2 1) (nextTag 2) (ced 1 0) 20 20
+    ∷ row (freshOn 2 1) (nextTag 1) (ced 1 0) 0 0
+    ∷ row (freshOn 2 1) (nextTag 2) (ced 0 0) 40 40
+    ∷ row (freshOn 2 1) (nextTag 2) (ced 1 0) 20 20
     -- D 1: the changed word takes the one row on; a tag for T comes before it, or finds no candidate
-    ∷ row (fresh 1 1) (tagFirst 1) (ced 0 0) 0 0
-    ∷ row (fresh 1 1) (changeFirst 1) (ced 0 0) 0 0
+    ∷ row (freshOn 1 1) (tagFirst 1) (ced 0 0) 0 0
+    ∷ row (freshOn 1 1) (changeFirst 1) (ced 0 0) 0 0
     ∷ []
 
 -- the table
-unfoldable pub table : List Row
-table = sums ++ (copies ++ (breaks ++ (apart ++ question)))
+unfoldable pub earnedTable : List Row
+earnedTable = sums ++ (copies ++ (breaks ++ (apart ++ question)))
 
 -- ---- the bench input of docs/ANSWER.md
 -- what calls print, the first first: the number, the values and the bytes handed out, of each
@@ -208,12 +208,12 @@ printed room (call ∷ rest) =
     line ∷ printed after rest
 
 -- a fresh store under rule 1 and the five words
-unfoldable pub begun : ℕ → List Call
-begun d = freshCall d 1 1 ∷ feed 1 1 0 T ∷ feed 1 2 0 T ∷ feed 1 3 0 T ∷ feed 1 4 0 T ∷ feed 1 5 170 T ∷ []
+unfoldable pub pageBegins : ℕ → List Call
+pageBegins d = freshCall d 1 1 ∷ feed 1 1 0 T ∷ feed 1 2 0 T ∷ feed 1 3 0 T ∷ feed 1 4 0 T ∷ feed 1 5 170 T ∷ []
 
 unfoldable pub tagsBefore : List Call
 tagsBefore =
-    begun 2
+    pageBegins 2
     ++ (tag 0 1 20 T30 orbit
     ∷ tag 0 2 20 T30 orbit
     ∷ askCall CED 1
@@ -223,7 +223,7 @@ tagsBefore =
 
 unfoldable pub tagsAfter : List Call
 tagsAfter =
-    begun 2
+    pageBegins 2
     ++ (feed 1 5 255 T30
     ∷ tag 0 1 20 T30 orbit
     ∷ tag 0 2 20 T30 orbit
@@ -235,7 +235,7 @@ tagsAfter =
 
 unfoldable pub oneRow : List Call
 oneRow =
-    begun 1 ++ (tag 0 1 40 T30 orbit ∷ feed 1 5 255 T30 ∷ askCall CED 1 ∷ tag 0 2 40 T30 orbit ∷ [])
+    pageBegins 1 ++ (tag 0 1 40 T30 orbit ∷ feed 1 5 255 T30 ∷ askCall CED 1 ∷ tag 0 2 40 T30 orbit ∷ [])
 
 abbrev ok : List ℕ
 ok = 0 ∷ []

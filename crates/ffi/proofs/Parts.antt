@@ -13,7 +13,7 @@ use Rattle.paper.specs.Record.{Family, size, dataAt, dataBytes}
 use Rattle.paper.specs.Tag.{familyOf, copAllowed, kindKnown}
 use Rattle.paper.specs.Answer.{candidateNumber, candidateAnswer, candidateData, askNumber, askAnswer, askData}
 use Rattle.paper.proofs.Parts.{length-part}
-use Rattle.refusals.specs.Reply.{numberOf}
+use Rattle.refusals.specs.Reply.{refusalNumber}
 use Rattle.refusals.specs.declared.Refusal.{Refusal}
 use Rattle.refusals.proofs.Answers.{above-zero, refused-number, done-number}
 use Rattle.tags.specs.Candidates.{Placed}
@@ -55,13 +55,13 @@ module _ (sat kind cop w t : ℕ) (room : List ℕ) (r : Candidate) (p : Placed 
       sym (data-length (familyOf kind) x room (there .inside)) ∙ ap length (shown .1) in
       (rw (none, eo, eb, ← long, ← (there .place)), rw (eo, eb) (shown .1))
 
-  pub shown-nothing : (why : Refusal) → r ≡ Refused why → (n : ℕ) → n ≡ numberOf why
+  pub shown-nothing : (why : Refusal) → r ≡ Refused why → (n : ℕ) → n ≡ refusalNumber why
       → Shows (record { number = n; offset = 0; bytes = 0 })
   unfolding candidateOffset
   shown-nothing why q n en =
       let shown = shown-refused sat kind cop w t room r p why q in
-      let k : candidateNumber sat kind cop w t room ≡ numberOf why = refused-number _ _ [] (shown .0) in
-      let o : 0 ≡ candidateOffset sat kind cop w t room = rw k (no-offset (numberOf why) _ (above-zero why)) in
+      let k : candidateNumber sat kind cop w t room ≡ refusalNumber why = refused-number _ _ [] (shown .0) in
+      let o : 0 ≡ candidateOffset sat kind cop w t room = rw k (no-offset (refusalNumber why) _ (above-zero why)) in
       (rw (en, ← (shown .0), ← o, ← (shown .1)), shown .1)
 
 module _ (f : Family) (sat : ℕ) (room : List ℕ) where
@@ -70,13 +70,13 @@ module _ (f : Family) (sat : ℕ) (room : List ℕ) where
       (s ≡ toldOf (askAnswer f sat room) (askOffset f sat room) (length (askData f sat room)))
       × (part (s .offset) (s .bytes) room ≡ askData f sat room)
 
-  pub told-nothing : (why : Refusal) → refused (numberOf why) ≡ askAnswer f sat room → (n : ℕ) → n ≡ numberOf why
+  pub told-nothing : (why : Refusal) → refused (refusalNumber why) ≡ askAnswer f sat room → (n : ℕ) → n ≡ refusalNumber why
       → Tells (record { number = n; authbits = 0; week = 0; time = 0; offset = 0; bytes = 0 })
   unfolding askOffset askAnswer
   told-nothing why e n en =
-      let k : askNumber f sat room ≡ numberOf why = refused-number _ _ _ e in
-      let o : 0 ≡ askOffset f sat room = rw k (no-offset (numberOf why) _ (above-zero why)) in
-      let d : [] ≡ askData f sat room = no-data f sat room (numberOf why) e in
+      let k : askNumber f sat room ≡ refusalNumber why = refused-number _ _ _ e in
+      let o : 0 ≡ askOffset f sat room = rw k (no-offset (refusalNumber why) _ (above-zero why)) in
+      let d : [] ≡ askData f sat room = no-data f sat room (refusalNumber why) e in
       (rw (en, ← e, ← o, ← d), d)
 
   pub told-part : (n w t x : ℕ) → done (n ∷ w ∷ t ∷ []) ≡ askAnswer f sat room → x ≡ askPlace f sat room

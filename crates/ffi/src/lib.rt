@@ -13,7 +13,7 @@ ghost use Rattle.paper.specs.Answer.{freshAnswer, freshRoom, feedAnswer, feedRo
 ghost use Rattle.paper.specs.Answer.{candidateAnswer, candidateData, askAnswer, askData, resetAnswer, resetRoom};
 ghost use Rattle.paper.specs.Time.{addSeconds, addSubframes, subframeOf, isSubframe, difference};
 ghost use Rattle.gst.specs.Answer.{timeAnswer, startAnswer, apartAnswer};
-ghost use Rattle.refusals.specs.Reply.{replyAnswer, numberOf};
+ghost use Rattle.refusals.specs.Reply.{replyAnswer, refusalNumber};
 ghost use Rattle.tags.specs.Candidates.{taggedAnswer};
 ghost use Rattle.ffi.specs.Handed.{takenOf, shownOf, toldOf, momentOf, markOf, spanOf};
 ghost use Rattle.ffi.specs.Offset.{candidateOffset, askOffset};
@@ -268,7 +268,7 @@ pub extern "C" fn dawnstook_reset_authbits(room: &mut [u8]) -> u8
 
 // A refusal: the values beside it are 0 (STORE 14.3).
 fn no_moment(why: Refusal) -> Moment
-    ensures { λ r. ⌜ r ≡ momentOf (refused (numberOf why)) ⌝ }
+    ensures { λ r. ⌜ r ≡ momentOf (refused (refusalNumber why)) ⌝ }
 {
     Moment {
         number: refusals::number(why),

@@ -7,8 +7,8 @@ use Rattle.ffi_orbit.specs.declared.Head.{Head}
 use Rattle.ffi_orbit.specs.declared.OrbitRead.{OrbitRead}
 use Rattle.ffi_orbit.specs.declared.TimingRead.{TimingRead}
 
-abbrev pub headOf : Answer → Head
-headOf a =
+abbrev pub headHanded : Answer → Head
+headHanded a =
     record { number = number a; authbits = getD (values a) 0 0; week = getD (values a) 1 0; time = getD (values a) 2 0 }
 
 abbrev pub orbitHanded : Answer → Orbit → OrbitRead

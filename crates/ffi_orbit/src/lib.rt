@@ -7,8 +7,8 @@ ghost use Rattle.paper.specs.Number.{refused};
 ghost use Rattle.paper.specs.Record.{CED, Timing as TIMING, familyIf};
 ghost use Rattle.paper.specs.Orbit.{numbersAnswer, numbersData};
 ghost use Rattle.orbit.specs.Numbers.{orbitFrom, timingFrom};
-ghost use Rattle.orbit.specs.Got.{placedAnswer, Within, partPlaced};
-ghost use Rattle.ffi_orbit.specs.Handed.{headOf, orbitHanded, timingHanded};
+ghost use Rattle.orbit.specs.Got.{placedAnswer, PlacedWithin, partPlaced};
+ghost use Rattle.ffi_orbit.specs.Handed.{headHanded, orbitHanded, timingHanded};
 use fields::Word1;
 use fields::Word2;
 use fields::Word3;
@@ -60,7 +60,7 @@ struct Head {
 
 // Beside a refusal the count and the time are 0.
 fn no_numbers(number: u8) -> Head
-    ensures { λ r. ⌜ r ≡ headOf (refused number) ⌝ }
+    ensures { λ r. ⌜ r ≡ headHanded (refused number) ⌝ }
 {
     Head {
         number,
@@ -71,7 +71,7 @@ fn no_numbers(number: u8) -> Head
 }
 
 fn head_of(placed: Placed) -> Head
-    ensures { λ r. ⌜ r ≡ headOf (placedAnswer placed) ⌝ }
+    ensures { λ r. ⌜ r ≡ headHanded (placedAnswer placed) ⌝ }
 {
     match placed {
         Placed::At(_, authbits, gst) => Head {
@@ -88,7 +88,7 @@ fn head_of(placed: Placed) -> Head
 
 // The data that is to be read, or the empty slice.
 fn part_placed(room: &[u8], timing: bool, placed: Placed) -> &[u8]
-    requires { ⌜ Within (familyIf timing) placed (length (now room)) ⌝ }
+    requires { ⌜ PlacedWithin (familyIf timing) placed (length (now room)) ⌝ }
     ensures { λ r. ⌜ now r ≡ partPlaced (familyIf timing) placed (now (room .entry)) ⌝ }
 {
     match placed {

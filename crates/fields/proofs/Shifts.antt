@@ -19,11 +19,11 @@ use Rattle.paper.specs.Field.{signed, valueOf, bitsAt}
 use Rattle.paper.proofs.Fields.{bits-inside, bits-small, bits-byte, bits-bytes}
 
 -- 1 << k
-pub one-shl : (k : ℕ) → k ≤ 32 → (1 * 2 ^ k) % 18446744073709551616 ≡ 2 ^ k
-one-shl k h = shl-exact {a = 1} 1 k 64 (lit< tt) (omega arith) ∙ one-mul (2 ^ k)
+pub one-shl-64 : (k : ℕ) → k ≤ 32 → (1 * 2 ^ k) % 18446744073709551616 ≡ 2 ^ k
+one-shl-64 k h = shl-exact {a = 1} 1 k 64 (lit< tt) (omega arith) ∙ one-mul (2 ^ k)
 
-pub one-shl-pos : (k : ℕ) → k ≤ 32 → 0 < (1 * 2 ^ k) % 18446744073709551616
-one-shl-pos k h = rw (one-shl k h) (pow-pos k)
+pub one-shl-64-pos : (k : ℕ) → k ≤ 32 → 0 < (1 * 2 ^ k) % 18446744073709551616
+one-shl-64-pos k h = rw (one-shl-64 k h) (pow-pos k)
 
 -- a number of at most 32 bits
 pub narrow : (v w : ℕ) → v < 2 ^ w → w ≤ 32 → v < 4294967296
@@ -31,9 +31,9 @@ narrow v w l h = lt-of-lt-of-le l (pow-mono {i = w} {j = 32} h)
 
 -- ---- five bytes, and the bits inside them
 module _ (s : List ℕ) (bytes : Bytes s) where
-  pub five : (j a b c d e : ℕ) → a ≡ getD s j 0 → b ≡ getD s (j + 1) 0 → c ≡ getD s (j + 2) 0 → d ≡ getD s (j + 3) 0 → e ≡ getD s (j + 4) 0
+  pub forty-bits : (j a b c d e : ℕ) → a ≡ getD s j 0 → b ≡ getD s (j + 1) 0 → c ≡ getD s (j + 2) 0 → d ≡ getD s (j + 3) 0 → e ≡ getD s (j + 4) 0
       → (((a * 256 + b) * 256 + c) * 256 + d) * 256 + e ≡ bitsAt s (8 * j) 40
-  five j a b c d e p q r t u =
+  forty-bits j a b c d e p q r t u =
       rw (bits-bytes s bytes j 4, bits-bytes s bytes j 3, bits-bytes s bytes j 2, bits-bytes s bytes j 1, bits-byte s bytes j, p, q, r, t, u)
 
   pub inside : (o w v : ℕ) → w ≤ 32 → v ≡ bitsAt s (8 * (o / 8)) 40
@@ -41,7 +41,7 @@ module _ (s : List ℕ) (bytes : Bytes s) where
   inside o w v h e =
       let long : 40 ≡ o % 8 + (w + (40 - (o % 8 + w))) = omega arith in
       let from : 8 * (o / 8) + o % 8 ≡ o = omega arith in
-      rw (one-shl w h, e)
+      rw (one-shl-64 w h, e)
       (ap (λ (x : ℕ). bitsAt s (8 * (o / 8)) x / 2 ^ (40 - (o % 8 + w)) % 2 ^ w) long
       ∙ bits-inside s (8 * (o / 8)) (o % 8) w (40 - (o % 8 + w))
       ∙ ap (λ (x : ℕ). bitsAt s x w) from)
@@ -61,7 +61,7 @@ module _ (w v : ℕ) (one : 1 ≤ w) (most : w ≤ 32) (small : v < 2 ^ w) where
   turned = half + half - 1 - v
 
   half-is : half ≡ 2 ^ (w - 1)
-  half-is = one-shl (w - 1) (omega arith)
+  half-is = one-shl-64 (w - 1) (omega arith)
 
   half-most : half ≤ 2147483648
   half-most = rw half-is (pow-mono {i = w - 1} {j = 31} (omega arith))
@@ -69,8 +69,8 @@ module _ (w v : ℕ) (one : 1 ≤ w) (most : w ≤ 32) (small : v < 2 ^ w) where
   both : 2 ^ w ≡ half + half
   both = halves w one ∙ rw half-is
 
-  pub low-fits : v < half → v < 2147483648
-  low-fits l = omega (arith, half-most)
+  pub low-half-fits : v < half → v < 2147483648
+  low-half-fits l = omega (arith, half-most)
 
   pub low-is : v < half → pos v ≡ valueOf signed w v
   low-is l = sym (ap (λ (b : Bool). cond b (pos v) (negsuc (2 ^ w - 1 - v))) (lt-ltb v (2 ^ (w - 1)) (rw (← half-is) l)))

@@ -12,7 +12,7 @@ use lib.Signed.{leZ}
 use types.Run.{OneOf}
 use denote.Enum.Declared.{tagOf}
 use Rattle.paper.specs.Number.{Answer, done, refused, number}
-use Rattle.paper.specs.Time.{isTime, isStart, startOf, weekSeconds, lastWeek, secondsOf, timeAt, sumOf, addSeconds, subframeOf, isSubframe}
+use Rattle.paper.specs.Time.{isTime, isStart, startOf, weekSeconds, lastWeek, secondsOf, timeOfSeconds, sumOf, addSeconds, subframeOf, isSubframe}
 use Rattle.gst.specs.Answer.{timeAnswer, startAnswer}
 use Rattle.gst.specs.declared.Gst.{Gst}
 use Rattle.gst.specs.declared.NewTime.{NewTime}
@@ -21,10 +21,10 @@ use Rattle.gst.specs.declared.Start.the-variants.{Yes, No, TowTooLarge a
 use Rattle.gst.proofs.NewTime.{the-type}
 
 -- the arm of `let NewTime::Time(..) = .. else`: the number is not 0
-pub refuses : (r : NewTime) → OneOf (1 ∷ 2 ∷ []) (tagOf the-type r) → eqb (number (timeAnswer r)) 0 ≡ false
-refuses (Time g) k = absurd (⊎-elim (λ e. omega arith) (λ e. omega arith) k)
-refuses TowTooLarge k = refl
-refuses TimeArithmetic k = refl
+pub refuses-time : (r : NewTime) → OneOf (1 ∷ 2 ∷ []) (tagOf the-type r) → eqb (number (timeAnswer r)) 0 ≡ false
+refuses-time (Time g) k = absurd (⊎-elim (λ e. omega arith) (λ e. omega arith) k)
+refuses-time TowTooLarge k = refl
+refuses-time TimeArithmetic k = refl
 
 -- a cut time: the time asked is one, and this is the start of its subframe
 pub cut-time :
@@ -86,8 +86,8 @@ sum-of-time w t s h = simp h
 
 -- a sum is a time again
 at-within :
-    (z : ℤ) (w t : ℕ) → done (w ∷ t ∷ []) ≡ timeAt z → (w ≤ lastWeek) × (t < weekSeconds)
-unfolding timeAt
+    (z : ℤ) (w t : ℕ) → done (w ∷ t ∷ []) ≡ timeOfSeconds z → (w ≤ lastWeek) × (t < weekSeconds)
+unfolding timeOfSeconds
 at-within (pos s) w t e = go (leb (s / weekSeconds) lastWeek) refl e
   where
     go :
@@ -102,14 +102,14 @@ at-within (pos s) w t e = go (leb (s / weekSeconds) lastWeek) refl e
     go false h e = absurd (let z : _≡_ {A = ℕ} 0 1 = cc in omega arith)
 at-within (negsuc s) w t e = absurd (let z : _≡_ {A = ℕ} 0 1 = cc in omega arith)
 
-pub sum-within :
+pub told-within :
     (w t : ℕ) (s : ℤ) (w' t' : ℕ) → done (w' ∷ t' ∷ []) ≡ sumOf w t s → (w' ≤ lastWeek) × (t' < weekSeconds)
 unfolding sumOf
-sum-within w t s w' t' e = go (leZ s (negsuc 604799)) e
+told-within w t s w' t' e = go (leZ s (negsuc 604799)) e
   where
     go :
         (b : Bool) →
-        done (w' ∷ t' ∷ []) ≡ cond b (refused 7) (timeAt (pos (secondsOf w t) +ℤ s)) →
+        done (w' ∷ t' ∷ []) ≡ cond b (refused 7) (timeOfSeconds (pos (secondsOf w t) +ℤ s)) →
         (w' ≤ lastWeek) × (t' < weekSeconds)
     go true h = absurd (let z : _≡_ {A = ℕ} 0 1 = cc in omega arith)
     go false h = at-within (pos (secondsOf w t) +ℤ s) w' t' h

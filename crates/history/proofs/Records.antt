@@ -9,10 +9,10 @@ use borrow.Author.Tests.{eqb-true, eqb-false, eq-eqb, ne-eqb}
 use lib.ListN.{length}
 use Rattle.paper.specs.Bits.{changed}
 use Rattle.paper.specs.Record.{Family, size, dataAt, dataBytes, satellite, count, dataOf, sameBits}
-use Rattle.paper.specs.Word.{Owned, nothing, owns, owned, typeOf, taken, written, fedRecord, InBounds}
+use Rattle.paper.specs.Word.{Owned, nothing, owns, owned, typeOf, takeover, written, fedRecord, InBounds}
 use Rattle.paper.proofs.Parts.{length-part}
-use Rattle.paper.proofs.Lengths.{keeps-taken}
-use Rattle.paper.proofs.RecordViews.{heldOrFree, taken-satellite, taken-count, taken-data, written-satellite, written-count, written-data}
+use Rattle.paper.proofs.Lengths.{keeps-takeover}
+use Rattle.paper.proofs.RecordViews.{heldOrFree, takeover-satellite, takeover-count, takeover-data, written-satellite, written-count, written-data}
 use Rattle.history.specs.Line.{same}
 use Rattle.paper.proofs.Same.{true-bits}
 use Rattle.history.proofs.Agree.{true-same, moved-bits}
@@ -64,18 +64,18 @@ module _ (f : Family) (word rec : List ℕ) (l : length rec ≡ size f) where
 -- ---- a word fed: the satellite taken, and what the word owns written
 module _ (f : Family) (sat band : ℕ) (word rec : List ℕ) (l : length rec ≡ size f) (free : satellite rec ≡ 0 → count rec ≡ 0) where
   abbrev fedOne : List ℕ
-  fedOne = written f (owned f (typeOf word) band) word (taken f sat rec)
+  fedOne = written f (owned f (typeOf word) band) word (takeover f sat rec)
 
-  long : length (taken f sat rec) ≡ size f
-  long = keeps-taken f sat rec l
+  long : length (takeover f sat rec) ≡ size f
+  long = keeps-takeover f sat rec l
 
   fed-satellite : satellite fedOne ≡ sat
-  fed-satellite = written-same f word (taken f sat rec) long (owned f (typeOf word) band) ∙ taken-satellite f sat rec l
+  fed-satellite = written-same f word (takeover f sat rec) long (owned f (typeOf word) band) ∙ takeover-satellite f sat rec l
 
   fed-count : count fedOne ≡ cond (sameBits f (dataOf f fedOne) (dataOf f rec)) (cond (heldOrFree sat rec) (count rec) 0) 0
   fed-count =
-      written-kept f word (taken f sat rec) long (owned f (typeOf word) band) (owned-inBounds f (typeOf word) band)
-      ∙ rw (taken-data f sat rec l, taken-count f sat rec l)
+      written-kept f word (takeover f sat rec) long (owned f (typeOf word) band) (owned-inBounds f (typeOf word) band)
+      ∙ rw (takeover-data f sat rec l, takeover-count f sat rec l)
 
   -- a record with no satellite has no count to keep
   taken-over : (bits : Bool)

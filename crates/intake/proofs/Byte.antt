@@ -13,9 +13,9 @@ use Rattle.paper.proofs.Parts.{part-of-take}
 use Rattle.text.specs.Text.{Put}
 use Rattle.text.proofs.Puts.{put-none}
 use Rattle.lines.specs.declared.Kind.{Kind}
-use Rattle.lines.specs.Kinds.{kindOf, bodyLength, longestRecord}
+use Rattle.lines.specs.Kinds.{kindOf, bodyLength, longestItem}
 use Rattle.lines.proofs.Longest.{body-within}
-use Rattle.benchlines.specs.Records.{recordRoom}
+use Rattle.benchlines.specs.Items.{wholeRoom}
 use Rattle.intake.specs.Input.{Stage, going, whole, behind, stageAfter, itemsWith, mostFor, linesFor, roomOf, linesOf}
 use Rattle.intake.specs.Reader.{Stepped, NotWhole}
 
@@ -84,7 +84,7 @@ module _ (traced : Bool) (room kept : List ℕ) (have b : ℕ) (out : List ℕ) 
         (s' : Stage) (room' out' : List ℕ) (said : ℕ)
         → bodyLength kind ≤ have → at ≤ length out → mostFor traced ≤ length out - at
         → behind kind ≡ s'
-        → room' ≡ recordRoom kind (take (have + 1 - 1) (drop 1 (set kept have b))) room
+        → room' ≡ wholeRoom kind (take (have + 1 - 1) (drop 1 (set kept have b))) room
         → Put out at (linesFor traced (whole kind (take (have + 1 - 1) (drop 1 (set kept have b)))) room) out' said
         → Stepped traced (going (take have kept)) b room out at s' room' out' said false
     unfolding roomOf linesOf body
@@ -100,7 +100,7 @@ module _ (traced : Bool) (room kept : List ℕ) (have b : ℕ) (out : List ℕ) 
 pub notWhole-within : (kept : List ℕ) (have : ℕ) → NotWhole kept have → have < length kept
 notWhole-within kept have k = omega (arith, k .size, k .within, body-within (kindOf (getD kept 0 0)))
 
-pub notWhole-short : (kept : List ℕ) (have : ℕ) → NotWhole kept have → have < longestRecord
+pub notWhole-short : (kept : List ℕ) (have : ℕ) → NotWhole kept have → have < longestItem
 notWhole-short kept have k = omega (arith, k .within, body-within (kindOf (getD kept 0 0)))
 
 -- a byte behind others does not change their kind

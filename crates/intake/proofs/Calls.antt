@@ -3,7 +3,7 @@ use mathlib.Core.Path.{_≡_, refl, ap, _∙_}
 use mathlib.Core.List.{List, [], _∷_, _++_}
 use Prim.Native.Nat.{ℕ}
 use Rattle.paper.specs.Call.{Call, run}
-use Rattle.benchlines.specs.Records.{Deed, calls, says, callsIn}
+use Rattle.benchlines.specs.Items.{Deed, calls, says, callsIn}
 use Rattle.intake.specs.Input.{Item, deedFor, roomOf, callsFrom}
 
 one-deed : (room : List ℕ) (earlier : List Call) (deed : Deed) → run (run room earlier) (callsIn deed) ≡ run room (callsIn deed ++ earlier)

@@ -6,21 +6,21 @@ use Prim.Native.Nat.{ℕ}
 use lib.ListN.{replicate}
 use Rattle.lines.specs.declared.Kind.the-variants.{Reset, Ced, Fresh, Unknown}
 use Rattle.lines.specs.Kinds.{kindOf}
-use Rattle.intake.specs.Input.{whole, cut, going, ended, stageAfter, itemsWith, stageOf, itemsOf, stageAtEnd, itemsAtEnd, atStart, recordsOf}
+use Rattle.intake.specs.Input.{whole, cut, going, ended, stageAfter, itemsWith, stageOf, itemsOf, stageAtEnd, itemsAtEnd, atStart, inputItems}
 use Rattle.intake.specs.Reader.{readerBytes, stageIn, readerOf, endFits, stageEnded, itemsEnded, numberAtEnd}
 
 -- whole records, and the end inside one
-pub two-and-a-cut : recordsOf (3 ∷ 6 ∷ 2 ∷ 4 ∷ 1 ∷ []) ≡ whole Reset [] ∷ whole Fresh (2 ∷ 4 ∷ []) ∷ cut ∷ []
-unfolding recordsOf itemsOf stageOf stageAfter itemsWith itemsAtEnd kindOf
+pub two-and-a-cut : inputItems (3 ∷ 6 ∷ 2 ∷ 4 ∷ 1 ∷ []) ≡ whole Reset [] ∷ whole Fresh (2 ∷ 4 ∷ []) ∷ cut ∷ []
+unfolding inputItems itemsOf stageOf stageAfter itemsWith itemsAtEnd kindOf
 two-and-a-cut = refl
 
 -- a byte that is no kind is 13 at once, and what stands behind it is not heard
-pub unknown-alone : recordsOf (255 ∷ []) ≡ whole Unknown [] ∷ []
-unfolding recordsOf itemsOf stageOf stageAfter itemsWith itemsAtEnd kindOf
+pub unknown-alone : inputItems (255 ∷ []) ≡ whole Unknown [] ∷ []
+unfolding inputItems itemsOf stageOf stageAfter itemsWith itemsAtEnd kindOf
 unknown-alone = refl
 
-pub behind-unknown : recordsOf (4 ∷ 9 ∷ 10 ∷ 3 ∷ 1 ∷ []) ≡ whole Ced (9 ∷ []) ∷ whole Unknown [] ∷ []
-unfolding recordsOf itemsOf stageOf stageAfter itemsWith itemsAtEnd kindOf
+pub behind-unknown : inputItems (4 ∷ 9 ∷ 10 ∷ 3 ∷ 1 ∷ []) ≡ whole Ced (9 ∷ []) ∷ whole Unknown [] ∷ []
+unfolding inputItems itemsOf stageOf stageAfter itemsWith itemsAtEnd kindOf
 behind-unknown = refl
 
 -- a known kind alone waits; said to have ended there, the input is cut short
@@ -44,8 +44,8 @@ unfolding stageOf stageAfter stageAtEnd itemsAtEnd endFits stageEnded itemsEnded
 kind-cut-then = (refl, (refl, (refl, refl)))
 
 -- no bytes are no part of a record and, at the end, a clean one
-pub nothing : recordsOf [] ≡ []
-unfolding recordsOf itemsOf stageOf itemsAtEnd
+pub nothing : inputItems [] ≡ []
+unfolding inputItems itemsOf stageOf itemsAtEnd
 nothing = refl
 
 -- zeros are a reader at the start; bytes that keep a whole record keep nothing

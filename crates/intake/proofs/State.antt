@@ -12,7 +12,7 @@ use Rattle.text.specs.Text.{putText}
 use Rattle.text.proofs.Puts.{length-putText, putText-one, putText-then}
 use Rattle.lines.specs.declared.Kind.{Kind}
 use Rattle.lines.specs.declared.Kind.the-variants.{Word, Tag, Reset, Ced, Timing, Fresh, FreshRuled, Unknown}
-use Rattle.lines.specs.Kinds.{kindOf, bodyLength, longestRecord}
+use Rattle.lines.specs.Kinds.{kindOf, bodyLength, longestItem}
 use Rattle.lines.proofs.Longest.{body-within}
 use Rattle.intake.specs.Input.{Stage, going, ended, unfinished, behind, stageAfter, stageOf}
 use Rattle.intake.specs.Reader.{readerBytes, haveAt, endedAt, numberAt, keptIn, stageIn, stateOf, readerOf}
@@ -74,20 +74,20 @@ keeps-less reader kept e =
     ltb-true (length kept) (1 + bodyLength (kindOf (getD kept 0 0))) p
 
 -- ---- the bytes of a state say where it stands
-module _ (kept : List ℕ) (end number : ℕ) (short : length kept ≤ longestRecord) where
-  tail-at : (j : ℕ) → getD (stateOf kept end number) (longestRecord + j) 0 ≡ getD (length kept ∷ end ∷ number ∷ []) j 0
+module _ (kept : List ℕ) (end number : ℕ) (short : length kept ≤ longestItem) where
+  tail-at : (j : ℕ) → getD (stateOf kept end number) (longestItem + j) 0 ≡ getD (length kept ∷ end ∷ number ∷ []) j 0
   tail-at j =
-      let zeros : List ℕ = replicate (longestRecord - length kept) 0 in
+      let zeros : List ℕ = replicate (longestItem - length kept) 0 in
       let tail : List ℕ = length kept ∷ end ∷ number ∷ [] in
-      let place : longestRecord + j ≡ length kept + (length zeros + j) = rw (length-replicate {A = ℕ} (longestRecord - length kept) 0) (omega arith) in
+      let place : longestItem + j ≡ length kept + (length zeros + j) = rw (length-replicate {A = ℕ} (longestItem - length kept) 0) (omega arith) in
       rw place (getD-append-add kept (zeros ++ tail) (length zeros + j) 0 ∙ getD-append-add zeros tail j 0)
 
 pub stage-back : (s : Stage) → Proper s → stageIn (readerOf s) ≡ s
 unfolding stageIn readerOf
 stage-back (going kept) p =
     let less = ltb-true (length kept) (1 + bodyLength (kindOf (getD kept 0 0))) p in
-    let fits : length kept ≤ longestRecord = omega (arith, body-within (kindOf (getD kept 0 0))) in
-    let bytes : List ℕ = replicate (longestRecord - length kept) 0 ++ (length kept ∷ 0 ∷ 0 ∷ []) in
+    let fits : length kept ≤ longestItem = omega (arith, body-within (kindOf (getD kept 0 0))) in
+    let bytes : List ℕ = replicate (longestItem - length kept) 0 ++ (length kept ∷ 0 ∷ 0 ∷ []) in
     rw (tail-at kept 0 0 fits 1, tail-at kept 0 0 fits 0, take-at kept bytes (length kept) refl, p) refl
 stage-back (ended k) p = refl
 
@@ -104,13 +104,13 @@ stage-going reader have h k = rw (eq-eqb (getD reader endedAt 0) 0 h, k) refl
 
 -- ---- what `keep` writes, and what `kept_in` finds
 pub kept-then :
-    (reader : List ℕ) (have end number : ℕ) → length reader ≡ readerBytes → have < longestRecord
-    → putText reader have (replicate (longestRecord - have) 0 ++ (have ∷ end ∷ number ∷ [])) ≡ stateOf (take have reader) end number
+    (reader : List ℕ) (have end number : ℕ) → length reader ≡ readerBytes → have < longestItem
+    → putText reader have (replicate (longestItem - have) 0 ++ (have ∷ end ∷ number ∷ [])) ≡ stateOf (take have reader) end number
 unfolding putText
 kept-then reader have end number long h =
     let n : length (take have reader) ≡ have = length-take-le have reader (omega arith) in
-    let t : List ℕ = replicate (longestRecord - have) 0 ++ (have ∷ end ∷ number ∷ []) in
-    let size : length t ≡ longestRecord - have + 3 = simp (length-append, length-replicate) refl in
+    let t : List ℕ = replicate (longestItem - have) 0 ++ (have ∷ end ∷ number ∷ []) in
+    let size : length t ≡ longestItem - have + 3 = simp (length-append, length-replicate) refl in
     rw (n, drop-of-length-le reader {i = have + length t} (omega (arith, size)), append-nil t) refl
 
 module _ (reader : List ℕ) (have : ℕ) (long : length reader ≡ readerBytes) where
@@ -137,7 +137,7 @@ module _ (reader : List ℕ) (have : ℕ) (long : length reader ≡ readerBytes)
 
 -- a turn of the loop that clears what is not kept: the byte stays, or is one more zero
 pub cleared-turn :
-    (reader₀ reader : List ℕ) (have i : ℕ) → length reader₀ ≡ readerBytes → have < longestRecord → i < longestRecord
+    (reader₀ reader : List ℕ) (have i : ℕ) → length reader₀ ≡ readerBytes → have < longestItem → i < longestItem
     → reader ≡ putText reader₀ have (replicate (i - have) 0)
     → set reader i (cond (ltb i have) (getD reader i 0) 0) ≡ putText reader₀ have (replicate (i + 1 - have) 0)
 cleared-turn reader₀ reader have i long h below e = go (ltb i have) refl

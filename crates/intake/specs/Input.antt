@@ -13,7 +13,7 @@ use Rattle.lines.specs.declared.Kind.{Kind}
 use Rattle.lines.specs.declared.Kind.the-variants.{Word, Tag, Reset, Ced, Timing, Fresh, FreshRuled, Unknown}
 use Rattle.lines.specs.Kinds.{kindOf, bodyLength}
 use Rattle.lines.specs.Lines.{lineOf, longestLine}
-use Rattle.benchlines.specs.Records.{Deed, says, deedOf, callsIn, answerOn, unknownKind, recordLine}
+use Rattle.benchlines.specs.Items.{Deed, says, deedOf, callsIn, answerOn, unknownKind, wholeLine}
 
 -- ---- what stands in an input
 -- STORE 17.1, 17.4: a whole record, by its kind and its body; or the end of the input inside a record
@@ -84,8 +84,8 @@ itemsAtEnd (ended k) = []
 abbrev pub atStart : Stage
 atStart = going []
 
-unfoldable pub recordsOf : List ℕ → List Item
-recordsOf input =
+unfoldable pub inputItems : List ℕ → List Item
+inputItems input =
     let heard = itemsOf atStart input in
     let last = itemsAtEnd (stageOf atStart input) in
     heard ++ last
@@ -104,7 +104,7 @@ itemAnswer item room = answerOn (deedFor item room) room
 
 -- STORE 17.3, 17.4: its line
 abbrev pub itemLine : Item → List ℕ → List ℕ
-itemLine (whole kind body) room = recordLine kind body room
+itemLine (whole kind body) room = wholeLine kind body room
 itemLine cut room = lineOf Unknown 0 (itemAnswer cut room) []
 
 -- STORE 17.6: the line that `trace` adds behind each: `# ` and the Adler-32 of the whole room
@@ -152,4 +152,4 @@ benchRoom = roomSize mostRows mostSlots
 
 -- what is printed for an input
 unfoldable pub output : Bool → List ℕ → List ℕ
-output traced input = linesOf traced (replicate benchRoom 0) (recordsOf input)
+output traced input = linesOf traced (replicate benchRoom 0) (inputItems input)

@@ -6,22 +6,22 @@ use mathlib.Core.List.{List, [], _∷_, _++_}
 use lib.ListN.{length, getD, take, replicate}
 use lib.Dec.{eqb, ltb}
 use Rattle.text.specs.Text.{Put}
-use Rattle.lines.specs.Kinds.{kindOf, bodyLength, longestRecord}
-use Rattle.benchlines.specs.Records.{unknownKind}
+use Rattle.lines.specs.Kinds.{kindOf, bodyLength, longestItem}
+use Rattle.benchlines.specs.Items.{unknownKind}
 use Rattle.intake.specs.Input.{Item, Stage, going, ended, unfinished, stageAfter, itemsWith, itemsOf, stageAtEnd, itemsAtEnd, mostFor, roomOf, linesOf}
 
 -- ---- the state, as bytes: room for a record, how many bytes of it are kept, whether the input has ended (0 is no), and its number
 abbrev pub haveAt : ℕ
-haveAt = longestRecord
+haveAt = longestItem
 
 abbrev pub endedAt : ℕ
-endedAt = longestRecord + 1
+endedAt = longestItem + 1
 
 abbrev pub numberAt : ℕ
-numberAt = longestRecord + 2
+numberAt = longestItem + 2
 
 abbrev pub readerBytes : ℕ
-readerBytes = longestRecord + 3
+readerBytes = longestItem + 3
 
 -- where bytes say that a reader stands; where what they keep is no unfinished record, nothing is kept
 abbrev pub keptIn : List ℕ → List ℕ
@@ -35,7 +35,7 @@ stageIn reader =
 
 -- the bytes of a reader that stands there
 abbrev pub stateOf : List ℕ → ℕ → ℕ → List ℕ
-stateOf kept end number = kept ++ (replicate (longestRecord - length kept) 0 ++ (length kept ∷ end ∷ number ∷ []))
+stateOf kept end number = kept ++ (replicate (longestItem - length kept) 0 ++ (length kept ∷ end ∷ number ∷ []))
 
 unfoldable pub readerOf : Stage → List ℕ
 readerOf (going kept) = stateOf kept 0 0

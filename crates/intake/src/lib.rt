@@ -1,8 +1,8 @@
 // An input of the bench taken as it comes, part by part (STORE 17.8): a reader's state and the room are lent, and the lines for the
 // records that a part makes whole go into a lent output. All zero is the state of a reader at the start.
 use lines::Kind;
+use lines::LONGEST_ITEM;
 use lines::LONGEST_LINE;
-use lines::LONGEST_RECORD;
 use lines::Outcome;
 use refusals::CUT_SHORT;
 use refusals::UNKNOWN_KIND;
@@ -16,21 +16,21 @@ ghost use Prim.Native.Nat.{_+_, _≤_, _<_};
 ghost use lib.Dec.{ltb};
 ghost use lib.ListN.{length, getD, take};
 ghost use Rattle.text.specs.Text.{Put};
-ghost use Rattle.lines.specs.Kinds.{kindOf, bodyLength, longestRecord};
-ghost use Rattle.benchlines.specs.Records.{recordRoom, unknownKind};
+ghost use Rattle.lines.specs.Kinds.{kindOf, bodyLength, longestItem};
+ghost use Rattle.benchlines.specs.Items.{wholeRoom, unknownKind};
 ghost use Rattle.intake.specs.Input.{going, ended, whole, cut, behind, stageOf};
 ghost use Rattle.intake.specs.Input.{traceLine, traceBytes, mostFor, linesFor, linesOf};
 ghost use Rattle.intake.specs.Reader.{readerBytes, haveAt, keptIn, stageIn, stateOf, readerOf, stageNumber, full};
 ghost use Rattle.intake.specs.Reader.{Took, Stepped, endFits, stageEnded, itemsEnded, numberAtEnd, standing, NotWhole};
 
 // the state: room for a record, how many bytes of it are kept, whether the input has ended, and its number
-const HAVE_AT: usize = LONGEST_RECORD;
+const HAVE_AT: usize = LONGEST_ITEM;
 
-const ENDED_AT: usize = LONGEST_RECORD + 1;
+const ENDED_AT: usize = LONGEST_ITEM + 1;
 
-const NUMBER_AT: usize = LONGEST_RECORD + 2;
+const NUMBER_AT: usize = LONGEST_ITEM + 2;
 
-pub const READER: usize = LONGEST_RECORD + 3;
+pub const READER: usize = LONGEST_ITEM + 3;
 
 // what `trace` adds: "# ", eight digits and the line's end
 pub const TRACE: usize = 2 + 8 + 1;
@@ -88,7 +88,7 @@ fn most(traced: bool) -> usize
 }
 
 // The lines for a whole record.
-fn put_record(
+fn put_item(
     room: &mut [u8],
     kind: Kind,
     body: &[u8],
@@ -97,7 +97,7 @@ fn put_record(
     traced: bool,
 ) -> usize
     requires { ⌜ (length (now body) ≡ bodyLength kind) × (at + mostFor traced ≤ length (now out)) ⌝ }
-    ensures { λ r. ⌜ (now (room .exit) ≡ recordRoom kind (now (body .entry)) (now (room .entry)))
+    ensures { λ r. ⌜ (now (room .exit) ≡ wholeRoom kind (now (body .entry)) (now (room .entry)))
         × (Put (now (out .entry)) at (linesFor traced (whole kind (now (body .entry))) (now (room .entry))) (now (out .exit)) r) ⌝ }
 {
     let next = benchlines::answer(room, kind, body, out, at);
@@ -176,7 +176,7 @@ fn take_byte(
             ended: false,
         };
     }
-    let said = put_record(room, kind, &kept[1..end], out, at, traced);
+    let said = put_item(room, kind, &kept[1..end], out, at, traced);
     Step {
         have: 0,
         said,
@@ -259,11 +259,11 @@ fn kept_byte(byte: u8, i: usize, have: usize) -> u8
 // The state with its first bytes kept, and nothing else of what it held. The loop goes over all bytes: one over those that are cleared
 // would be made a call of C's library by the compiler, and the archive asks for none.
 fn keep(reader: &mut [u8], have: usize, end: u8, number: u8)
-    requires { ⌜ (length (now reader) ≡ readerBytes) × (have < longestRecord) ⌝ }
+    requires { ⌜ (length (now reader) ≡ readerBytes) × (have < longestItem) ⌝ }
     ensures { λ _. ⌜ now (reader .exit) ≡ stateOf (take have (now (reader .entry))) end number ⌝ }
 {
     let mut i = 0;
-    while i < LONGEST_RECORD {
+    while i < LONGEST_ITEM {
         reader[i] = kept_byte(reader[i], i, have);
         i += 1;
     }

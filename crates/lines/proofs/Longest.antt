@@ -5,7 +5,7 @@ use Prim.Native.Nat.{_<_}
 use lib.ListN.{length}
 use Rattle.lines.specs.declared.Kind.{Kind}
 use Rattle.lines.specs.declared.Kind.the-variants.{Word, Tag, Reset, Ced, Timing, Fresh, FreshRuled, Unknown}
-use Rattle.lines.specs.Kinds.{bodyLength, longestRecord, letterOf}
+use Rattle.lines.specs.Kinds.{bodyLength, longestItem, letterOf}
 
 pub letter-two : (k : Kind) → length (letterOf k) ≡ 2
 letter-two Word = refl
@@ -17,7 +17,7 @@ letter-two Fresh = refl
 letter-two FreshRuled = refl
 letter-two Unknown = refl
 
-pub body-within : (k : Kind) → bodyLength k < longestRecord
+pub body-within : (k : Kind) → bodyLength k < longestItem
 body-within Word = omega arith
 body-within Tag = omega arith
 body-within Reset = omega arith

@@ -26,8 +26,8 @@ bodyLength FreshRuled = 3
 bodyLength Unknown = 0
 
 -- the longest item: its kind byte and a word's body
-abbrev pub longestRecord : ℕ
-longestRecord = 1 + bodyLength Word
+abbrev pub longestItem : ℕ
+longestItem = 1 + bodyLength Word
 
 -- STORE 17.2: its letter, and x, each with the space behind it
 abbrev pub letterOf : Kind → List ℕ

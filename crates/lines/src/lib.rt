@@ -26,7 +26,7 @@ const WORD_BODY: usize = 1 + 1 + 2 + 4 + WORD_BYTES;
 const TAG_BODY: usize = 6 + 2 + 4;
 
 // the longest item: its kind byte and a word's body
-pub const LONGEST_RECORD: usize = 1 + WORD_BODY;
+pub const LONGEST_ITEM: usize = 1 + WORD_BODY;
 
 // a number behind its space
 const SPACED: usize = 1 + MOST_DIGITS;

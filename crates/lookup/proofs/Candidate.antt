@@ -2,7 +2,7 @@
 -- Assumes nothing.
 use native.Mathlib.Omega.{arith}
 use mathlib.Core.Path.{_≡_, refl, sym, _∙_}
-use mathlib.Core.Bool.{Bool, true, false, _&&_}
+use mathlib.Core.Bool.{Bool, true, false, cond, _&&_}
 use mathlib.Core.List.{List, [], _∷_}
 use Prim.Native.Nat.{ℕ, _<_}
 use borrow.Author.Tests.{ltb-true}
@@ -15,11 +15,10 @@ use Rattle.paper.specs.Store.{InRange}
 use Rattle.paper.proofs.StoreFacts.{both-true}
 use Rattle.lookup.specs.declared.Found.{Found}
 use Rattle.lookup.specs.declared.Found.the-variants.{At, Nothing}
-use Rattle.lookup.specs.Found.{pick}
 use Rattle.lookup.specs.Candidate.{placeOf, candidateIn, candidateAt, CandidateThere}
 use Rattle.lookup.proofs.Places.{place-inside, place-record, place-data}
 
-three : (a b c : Bool) (x y : Found) → pick a (pick b (pick c x y) y) y ≡ pick (a && b && c) x y
+three : (a b c : Bool) (x y : Found) → cond a (cond b (cond c x y) y) y ≡ cond (a && b && c) x y
 three true true c x y = refl
 three true false c x y = refl
 three false b c x y = refl
@@ -32,7 +31,7 @@ module _ (f : Family) (sat cop w t w' t' : ℕ) (room : List ℕ) (before : valu
   unfolding candidateRow
   same-row = rw before
 
-  candidate-is : candidateAt f sat cop w' t' room ≡ pick (hasCandidate f sat cop w t room) (At place) Nothing
+  candidate-is : candidateAt f sat cop w' t' room ≡ cond (hasCandidate f sat cop w t room) (At place) Nothing
   unfolding candidateAt candidateIn hasCandidate candidateSlot candidateRecord
   candidate-is =
       rw (← same-row)
@@ -43,7 +42,7 @@ module _ (f : Family) (sat cop w t w' t' : ℕ) (room : List ℕ) (before : valu
   pub candidate-none : candidateAt f sat cop w' t' room ≡ Nothing → hasCandidate f sat cop w t room ≡ false
   candidate-none e = go (hasCandidate f sat cop w t room) refl (sym candidate-is ∙ e)
     where
-      go : (b : Bool) → hasCandidate f sat cop w t room ≡ b → pick b (At place) Nothing ≡ Nothing → hasCandidate f sat cop w t room ≡ false
+      go : (b : Bool) → hasCandidate f sat cop w t room ≡ b → cond b (At place) Nothing ≡ Nothing → hasCandidate f sat cop w t room ≡ false
       go true h q = let z : _≡_ {A = ℕ} 0 1 = cc in absurd (omega arith)
       go false h q = h
 
@@ -57,7 +56,7 @@ module _ (f : Family) (sat cop w t w' t' : ℕ) (room : List ℕ) (before : valu
   found-place : (x : ℕ) → candidateAt f sat cop w' t' room ≡ At x → (hasCandidate f sat cop w t room ≡ true) × (x ≡ place)
   found-place x e = go (hasCandidate f sat cop w t room) refl (sym candidate-is ∙ e)
     where
-      go : (b : Bool) → hasCandidate f sat cop w t room ≡ b → pick b (At place) Nothing ≡ At x → (hasCandidate f sat cop w t room ≡ true) × (x ≡ place)
+      go : (b : Bool) → hasCandidate f sat cop w t room ≡ b → cond b (At place) Nothing ≡ At x → (hasCandidate f sat cop w t room ≡ true) × (x ≡ place)
       go true h q = (h, cc)
       go false h q = let z : _≡_ {A = ℕ} 0 1 = cc in absurd (omega arith)
 

@@ -2,7 +2,7 @@
 -- Assumes nothing.
 use native.Mathlib.Omega.{arith}
 use mathlib.Core.Path.{_≡_, refl}
-use mathlib.Core.Bool.{Bool, true, false, _&&_}
+use mathlib.Core.Bool.{Bool, true, false, cond, _&&_}
 use mathlib.Core.List.{List}
 use Prim.Native.Nat.{ℕ, _+_, _-_, _≤_, _<_}
 use borrow.Author.Tests.{lt-ltb, le-ltb, ltb-true}
@@ -15,14 +15,14 @@ use Rattle.paper.proofs.Parts.{getD-part}
 use Rattle.paper.proofs.Views.{record-fits}
 use Rattle.paper.proofs.First.{first-here, first-none}
 use Rattle.lookup.specs.declared.Found.the-variants.{At, Nothing}
-use Rattle.lookup.specs.Found.{pick, found}
+use Rattle.lookup.specs.Found.{found}
 
 -- ---- the tests of the two searches
 abbrev pub isMarked : ℕ → ℕ → List ℕ → ℕ → Bool
 isMarked w t room r = marked (rowOf r room) && isAt w t (rowOf r room)
 
-abbrev pub isOf : Family → ℕ → List ℕ → ℕ → Bool
-isOf f sat row i = eqb (satellite (recordOf f i row)) sat
+abbrev pub isOfSatellite : Family → ℕ → List ℕ → ℕ → Bool
+isOfSatellite f sat row i = eqb (satellite (recordOf f i row)) sat
 
 -- ---- the loop's two ends
 pub found-here : (p : ℕ → Bool) (n k r : ℕ) → r ≡ firstFrom p (n - k) k → k < n → p k ≡ true → At k ≡ found n r
@@ -35,14 +35,14 @@ found-none p n k r e h = rw (← first-none p n k r e h, le-ltb k n h)
 pub found-at : (n k x : ℕ) → found n k ≡ At x → (x ≡ k) × (k < n)
 found-at n k x e = go (ltb k n) refl e
   where
-    go : (b : Bool) → ltb k n ≡ b → pick b (At k) Nothing ≡ At x → (x ≡ k) × (k < n)
+    go : (b : Bool) → ltb k n ≡ b → cond b (At k) Nothing ≡ At x → (x ≡ k) × (k < n)
     go true t q = (cc, ltb-true k n t)
     go false t q = let z : _≡_ {A = ℕ} 0 1 = cc in absurd (omega arith)
 
 pub found-not : (n k : ℕ) → found n k ≡ Nothing → ltb k n ≡ false
 found-not n k e = go (ltb k n) refl e
   where
-    go : (b : Bool) → ltb k n ≡ b → pick b (At k) Nothing ≡ Nothing → ltb k n ≡ false
+    go : (b : Bool) → ltb k n ≡ b → cond b (At k) Nothing ≡ Nothing → ltb k n ≡ false
     go true t q = let z : _≡_ {A = ℕ} 0 1 = cc in absurd (omega arith)
     go false t q = t
 

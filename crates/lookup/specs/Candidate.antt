@@ -1,7 +1,7 @@
 -- Where the candidate of a tag lies in the room, for the subframe w, t that its row is marked with.
 use Prim.Native.Nat.{ℕ, _+_, _≤_}
 use mathlib.Core.Path.{_≡_}
-use mathlib.Core.Bool.{true}
+use mathlib.Core.Bool.{true, cond}
 use mathlib.Core.List.{List}
 use lib.Dec.{ltb}
 use lib.ListN.{length}
@@ -11,7 +11,6 @@ use Rattle.paper.specs.Room.{depth, slots, rowAt, rowOf, recordAt, recordOf}
 use Rattle.paper.specs.Tag.{firstRow, firstSlot, candidateRow, candidateSlot, candidateRecord, fitsCop, hasCandidate}
 use Rattle.lookup.specs.declared.Found.{Found}
 use Rattle.lookup.specs.declared.Found.the-variants.{At, Nothing}
-use Rattle.lookup.specs.Found.{pick}
 
 -- where the record of slot i of row r starts in the room
 abbrev pub placeOf : Family → ℕ → ℕ → List ℕ → ℕ
@@ -22,13 +21,13 @@ unfoldable pub candidateIn : Family → ℕ → ℕ → ℕ → List ℕ → Fou
 candidateIn f sat cop r room =
     let row = rowOf r room in
     let i = firstSlot f sat (slots room) row in
-    pick (ltb i (slots room)) (pick (fitsCop f cop (recordOf f i row)) (At (placeOf f r i room)) Nothing) Nothing
+    cond (ltb i (slots room)) (cond (fitsCop f cop (recordOf f i row)) (At (placeOf f r i room)) Nothing) Nothing
 
 -- STORE 11.2: in the first row, from row 0, that is marked w, t
 unfoldable pub candidateAt : Family → ℕ → ℕ → ℕ → ℕ → List ℕ → Found
 candidateAt f sat cop w t room =
     let r = firstRow w t room in
-    pick (ltb r (depth room)) (candidateIn f sat cop r room) Nothing
+    cond (ltb r (depth room)) (candidateIn f sat cop r room) Nothing
 
 -- what a caller learns of the place x of a candidate, for the MACK time w, t: its record starts there, and its data lies in it
 pub record CandidateThere (f : Family) (sat cop w t : ℕ) (room : List ℕ) (x : ℕ) : Type 0 where

@@ -10,7 +10,7 @@ use Rattle.paper.specs.Record.{recordBits}
 use Rattle.paper.specs.Message.{Head, formFamily, headWidth, headFields, messageBytes, messageBits, message, digitsOf, fieldBits, bitsFrom, inBytes}
 use Rattle.paper.specs.Message.{buildNumber, buildAnswer, buildBuffer}
 use Rattle.paper.proofs.Parts.{part-back}
-use Rattle.refusals.specs.Reply.{numberOf, replyAnswer}
+use Rattle.refusals.specs.Reply.{refusalNumber, replyAnswer}
 use Rattle.refusals.specs.declared.Refusal.{Refusal}
 use Rattle.refusals.specs.declared.Reply.{Reply}
 use Rattle.refusals.specs.declared.Reply.the-variants.{Refused}
@@ -23,12 +23,12 @@ use Rattle.message.proofs.Passed.{Allowed, build-passed, satellite-fits
 -- a refusal
 pub not-built : (form : ℕ) (h : Head) (bytes buffer : List ℕ) (r : Reply) (w : Refusal) → r ≡ Refused w
     → replyAnswer r ≡ answer (buildNumber form h bytes buffer) []
-    → (refused (numberOf w) ≡ buildAnswer form h bytes buffer) × (buffer ≡ buildBuffer form h bytes buffer)
+    → (refused (refusalNumber w) ≡ buildAnswer form h bytes buffer) × (buffer ≡ buildBuffer form h bytes buffer)
 unfolding buildAnswer buildBuffer
 not-built form h bytes buffer r w q e =
     let n = buildNumber form h bytes buffer in
-    let k : n ≡ numberOf w = refused-number (numberOf w) n [] (ap replyAnswer (sym q) ∙ e) in (
-      sym (ap (λ (i : ℕ). answer i (messageBytes form ∷ [])) k ∙ answer-refused (numberOf w) (messageBytes form ∷ []) (above-zero w)),
+    let k : n ≡ refusalNumber w = refused-number (refusalNumber w) n [] (ap replyAnswer (sym q) ∙ e) in (
+      sym (ap (λ (i : ℕ). answer i (messageBytes form ∷ [])) k ∙ answer-refused (refusalNumber w) (messageBytes form ∷ []) (above-zero w)),
       refuses r w n [] (onPart (λ (_ : List ℕ). message form h bytes) 0 (messageBytes form) buffer) buffer q e,
     )
 

@@ -8,7 +8,6 @@ use native.Mathlib.Nat.{add-zero, zero-add}
 use native.Mathlib.Omega.{arith}
 use lib.Pow.{high, low, shr-shr, pow-add}
 use lib.Arith.{digits-lt}
-use Rattle.paper.specs.Field.{pick}
 use Rattle.paper.specs.Message.{Head, afterPrnd, headFields, isTagZero, headWidth, digitsOf, fieldBits}
 use Rattle.paper.proofs.Digits.{low-digit}
 use Rattle.message.specs.Heads.{joined, headNumber}
@@ -77,7 +76,7 @@ module _ (form : ℕ) (h : Head) where
   unfolding widthOf
   head-wide = go (isTagZero form)
     where
-      go : (z : Bool) → widthOf (pick z (afterPrnd h) ((8, h .prnd) ∷ afterPrnd h)) ≡ cond z 0 8 + 50
+      go : (z : Bool) → widthOf (cond z (afterPrnd h) ((8, h .prnd) ∷ afterPrnd h)) ≡ cond z 0 8 + 50
       go true = refl
       go false = refl
 
@@ -88,7 +87,7 @@ module _ (form : ℕ) (h : Head) where
       after : Fit (afterPrnd h)
       after = (f .prna-fits, (f .week-fits, (f .time-fits, (f .counter-fits, (f .status-fits, tt)))))
 
-      go : (z : Bool) → Fit (pick z (afterPrnd h) ((8, h .prnd) ∷ afterPrnd h))
+      go : (z : Bool) → Fit (cond z (afterPrnd h) ((8, h .prnd) ∷ afterPrnd h))
       go true = after
       go false = (p, after)
 
@@ -112,6 +111,6 @@ module _ (form : ℕ) (h : Head) where
     where
       go : (z : Bool)
           → ((((cond z 0 (h .prnd) * 256 + h .prna) * 4096 + h .week) * 1048576 + h .time) * 256 + h .counter) * 4 + h .status
-          ≡ joined 0 (pick z (afterPrnd h) ((8, h .prnd) ∷ afterPrnd h))
+          ≡ joined 0 (cond z (afterPrnd h) ((8, h .prnd) ∷ afterPrnd h))
       go true = omega arith
       go false = omega arith

@@ -20,7 +20,7 @@ use Rattle.paper.proofs.Order.{unless-zero}
 use Rattle.paper.proofs.Parts.{part-back}
 use Rattle.paper.proofs.StoreFacts.{both-true}
 use Rattle.paper.proofs.Fields.{bits-small, bits-join, bits-inside}
-use Rattle.refusals.specs.Reply.{numberOf, replyAnswer}
+use Rattle.refusals.specs.Reply.{refusalNumber, replyAnswer}
 use Rattle.refusals.specs.declared.Refusal.{Refusal}
 use Rattle.refusals.specs.declared.Reply.{Reply}
 use Rattle.refusals.specs.declared.Reply.the-variants.{Refused}
@@ -79,19 +79,19 @@ module _ (form : ℕ) (m buffer : List ℕ) where
       )
 
   pub lengths-refuse : (r : Reply) (w : Refusal) → r ≡ Refused w → replyAnswer r ≡ answer (lengthsNumber form m buffer) []
-      → (refused (numberOf w) ≡ readAnswer form m buffer) × (buffer ≡ readBuffer form m buffer)
+      → (refused (refusalNumber w) ≡ readAnswer form m buffer) × (buffer ≡ readBuffer form m buffer)
   lengths-refuse r w q e =
-      let k : lengthsNumber form m buffer ≡ numberOf w = refused-number (numberOf w) _ [] (ap replyAnswer (sym q) ∙ e) in
-      not-read (numberOf w) (above-zero w) (read-order form m buffer ∙ rw k (stops (numberOf w) _ (above-zero w)))
+      let k : lengthsNumber form m buffer ≡ refusalNumber w = refused-number (refusalNumber w) _ [] (ap replyAnswer (sym q) ∙ e) in
+      not-read (refusalNumber w) (above-zero w) (read-order form m buffer ∙ rw k (stops (refusalNumber w) _ (above-zero w)))
 
   pub fields-refuse : lengthsNumber form m buffer ≡ 0 → (h : Head) → h ≡ readHead form m
       → (r : Reply) (w : Refusal) → r ≡ Refused w → replyAnswer r ≡ answer (fieldsNumber form h) []
-      → (refused (numberOf w) ≡ readAnswer form m buffer) × (buffer ≡ readBuffer form m buffer)
+      → (refused (refusalNumber w) ≡ readAnswer form m buffer) × (buffer ≡ readBuffer form m buffer)
   fields-refuse z h eh r w q e =
-      let k : fieldsNumber form (readHead form m) ≡ numberOf w =
-      ap (fieldsNumber form) (sym eh) ∙ refused-number (numberOf w) _ [] (ap replyAnswer (sym q) ∙ e) in
-      not-read (numberOf w) (above-zero w)
-      (read-order form m buffer ∙ goes-on (lengthsNumber form m buffer) _ z ∙ rw k (stops (numberOf w) _ (above-zero w)))
+      let k : fieldsNumber form (readHead form m) ≡ refusalNumber w =
+      ap (fieldsNumber form) (sym eh) ∙ refused-number (refusalNumber w) _ [] (ap replyAnswer (sym q) ∙ e) in
+      not-read (refusalNumber w) (above-zero w)
+      (read-order form m buffer ∙ goes-on (lengthsNumber form m buffer) _ z ∙ rw k (stops (refusalNumber w) _ (above-zero w)))
 
   pub padding-refuse : lengthsNumber form m buffer ≡ 0 → fieldsNumber form (readHead form m) ≡ 0 → (paddingOf form m ≡ 0 → ⊥)
       → (refused 26 ≡ readAnswer form m buffer) × (buffer ≡ readBuffer form m buffer)

@@ -11,7 +11,7 @@ use lib.ListN.{length, getD}
 use Rattle.paper.specs.Parts.{Bytes}
 use Rattle.paper.specs.Bits.{bitAt}
 use Rattle.paper.specs.Record.{recordBits, dataBytes, sameBits}
-use Rattle.paper.specs.Field.{pick, bitsAt}
+use Rattle.paper.specs.Field.{bitsAt}
 use Rattle.paper.specs.Message.{Head, isTagZero, formFamily, afterPrnd, headFields, prndWidth, headWidth, digitsOf, fieldBits, bitsFrom, inBytes}
 use Rattle.paper.specs.Message.{messageBits, messageBytes, message, readHead, readData, paddingOf, carried, clean}
 use Rattle.packing.proofs.Rows.{AllBits, digits-length, digits-bits, from-length, from-at, from-bits, append-bits, append-first, append-then, past-end, bytes-length, bytes-bytes, bytes-bit, spelled}
@@ -175,7 +175,7 @@ module _ (form : ℕ) (m : List ℕ) (h : Head) (same : carried form h ≡ readH
           (ap (λ (x : Head). x .counter) same) (ap (λ (x : Head). x .status) same)
 
       go : (z : Bool) → cond z 0 (h .prnd) ≡ bitsAt m 0 (cond z 0 8) → fieldBits (afterPrnd h) ≡ bitsFrom m (cond z 0 8) 50
-          → fieldBits (pick z (afterPrnd h) ((8, h .prnd) ∷ afterPrnd h)) ≡ bitsFrom m 0 (cond z 0 8 + 50)
+          → fieldBits (cond z (afterPrnd h) ((8, h .prnd) ∷ afterPrnd h)) ≡ bitsFrom m 0 (cond z 0 8 + 50)
       go true e q = q
       go false e q =
           ap (λ (l : List ℕ). l ++ fieldBits (afterPrnd h)) (ap (digitsOf 8) e ∙ digits-read m 0 8)

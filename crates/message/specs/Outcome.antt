@@ -8,7 +8,7 @@ use Rattle.paper.specs.Number.{Answer, done, refused, answer, unless}
 use Rattle.paper.specs.Time.{isTime, isStart}
 use Rattle.paper.specs.Record.{dataBytes}
 use Rattle.paper.specs.Message.{Head, formKnown, formFamily, messageBytes, satellitesRead, headValues}
-use Rattle.refusals.specs.Reply.{numberOf}
+use Rattle.refusals.specs.Reply.{refusalNumber}
 use Rattle.message.specs.declared.Heading.{Heading}
 use Rattle.message.specs.declared.Built.{Built}
 use Rattle.message.specs.declared.Built.the-variants.{Message as built, Refused as not-built}
@@ -28,12 +28,12 @@ headOf h =
 
 abbrev pub builtAnswer : Built → Answer
 builtAnswer (built bytes) = done (bytes ∷ [])
-builtAnswer (not-built why) = refused (numberOf why)
+builtAnswer (not-built why) = refused (refusalNumber why)
 
 abbrev pub readBackAnswer : ReadBack → Answer
 readBackAnswer (read h) = done (headValues (headOf h))
 readBackAnswer PaddingSet = refused 26
-readBackAnswer (not-read why) = refused (numberOf why)
+readBackAnswer (not-read why) = refused (refusalNumber why)
 
 -- the message is as long as its form's, and the data fits the buffer
 abbrev pub wellLong : ℕ → List ℕ → List ℕ → Bool

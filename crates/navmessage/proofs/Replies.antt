@@ -16,14 +16,14 @@ use Rattle.paper.specs.Time.{isTime}
 use Rattle.paper.specs.Word.{wordBytes}
 use Rattle.paper.proofs.Order.{unless-zero}
 use Rattle.paper.proofs.StoreFacts.{store-facts}
-use Rattle.refusals.specs.Reply.{numberOf, replyAnswer}
+use Rattle.refusals.specs.Reply.{refusalNumber, replyAnswer}
 use Rattle.refusals.specs.declared.Refusal.{Refusal}
 use Rattle.refusals.specs.declared.Reply.{Reply}
 use Rattle.refusals.specs.declared.Reply.the-variants.{Done, Refused}
 use Rattle.refusals.proofs.Answers.{refuses, does, done-room}
 
 pub refused-pair : (r : Reply) (w : Refusal) (k : ℕ) (after room : List ℕ) → r ≡ Refused w → replyAnswer r ≡ answer k []
-    → (refused (numberOf w) ≡ answer k []) × (room ≡ roomFor k after room)
+    → (refused (refusalNumber w) ≡ answer k []) × (room ≡ roomFor k after room)
 refused-pair r w k after room q e = (ap replyAnswer (sym q) ∙ e, refuses r w k [] after room q e)
 
 pub done-pair : (r : Reply) (k : ℕ) (after out room : List ℕ) → r ≡ Done → replyAnswer r ≡ answer k [] → out ≡ after

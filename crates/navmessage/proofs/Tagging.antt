@@ -8,7 +8,7 @@ use Rattle.paper.specs.Parts.{part}
 use Rattle.paper.specs.Record.{Family, size}
 use Rattle.paper.specs.Tag.{familyOf, copAllowed, lengthAllowed, kindKnown, statusKnown, candidateRecord, tagged, takenBy}
 use Rattle.paper.specs.Answer.{roomFor, untilCandidate, fromCandidate, tagNumber, tagAnswer, tagRoom}
-use Rattle.refusals.specs.Reply.{numberOf}
+use Rattle.refusals.specs.Reply.{refusalNumber}
 use Rattle.refusals.specs.declared.Refusal.{Refusal}
 use Rattle.refusals.proofs.Answers.{above-zero, answer-refused, refused-room}
 use Rattle.tags.specs.Candidates.{Placed, acceptedAnswer, acceptedRoom}
@@ -35,22 +35,22 @@ module _ (allowed known : Bool) (sat kind cop l status w t : ℕ) (given : List 
   number-is g u = rw (← ea, ← ek) (u (fromCandidate f given rec verdict status))
 
   pub tag-refused : (why : Refusal) → r ≡ Refused why
-      → (refused (numberOf why) ≡ tagAnswer sat kind cop l status w t given verdict room)
+      → (refused (refusalNumber why) ≡ tagAnswer sat kind cop l status w t given verdict room)
       × (room ≡ tagRoom sat kind cop l status w t given verdict room)
   unfolding tagAnswer tagRoom
   tag-refused why q =
-      let n = number-is (λ (later : ℕ). numberOf why) (known-as (Refused why) q) in
+      let n = number-is (λ (later : ℕ). refusalNumber why) (known-as (Refused why) q) in
       let v : List ℕ = takenBy (familyOf kind) (candidateRecord (familyOf kind) sat w t room) room ∷ [] in
-      let e : refused (numberOf why) ≡ answer (tagNumber sat kind cop l status w t given verdict room) v =
-      sym (ap (λ (k : ℕ). answer k v) n ∙ answer-refused (numberOf why) v (above-zero why)) in
-      (e, refused-room (numberOf why) (tagNumber sat kind cop l status w t given verdict room) v _ room e)
+      let e : refused (refusalNumber why) ≡ answer (tagNumber sat kind cop l status w t given verdict room) v =
+      sym (ap (λ (k : ℕ). answer k v) n ∙ answer-refused (refusalNumber why) v (above-zero why)) in
+      (e, refused-room (refusalNumber why) (tagNumber sat kind cop l status w t given verdict room) v _ room e)
 
-  pub tag-accepted : (x : ℕ) (a : Answer) (out : List ℕ) → r ≡ At x
+  pub tag-at-candidate : (x : ℕ) (a : Answer) (out : List ℕ) → r ≡ At x
       → a ≡ acceptedAnswer (familyOf kind) given (part x (size (familyOf kind)) room) verdict status room
       → out ≡ acceptedRoom (familyOf kind) given (part x (size (familyOf kind)) room) verdict status l room
       → (a ≡ tagAnswer sat kind cop l status w t given verdict room) × (out ≡ tagRoom sat kind cop l status w t given verdict room)
   unfolding tagAnswer tagRoom f rec
-  tag-accepted x a out q e o =
+  tag-at-candidate x a out q e o =
       let there = known-as (At x) q in
       let n = number-is (λ (later : ℕ). later) (there .0) in (
         e ∙ ap (λ (c : List ℕ). acceptedAnswer f given c verdict status room) (there .1 .here) ∙ rw n,

@@ -13,7 +13,7 @@ use lib.Ieee.{Float, binary64, toBits}
 use lib.Pow.{pow-mono}
 use Rattle.paper.specs.Record.{Family, sameFamily}
 use Rattle.paper.specs.Word.{Line, table}
-use Rattle.paper.specs.Field.{Field, Sign, unsigned, signed, Scale, plain, by, layouts, fieldsIn, fieldsOf, valueOf, bitsAt, numbersAt, pick, inRecord, fieldsAlong, numbersAlong}
+use Rattle.paper.specs.Field.{Field, Sign, unsigned, signed, Scale, plain, by, layouts, fieldsIn, fieldsOf, valueOf, bitsAt, numbersAt, inRecord, fieldsAlong, numbersAlong}
 use Rattle.paper.specs.Double.{Exactly, double, scaledBefore, doublesOf, doublesIn}
 use Rattle.paper.proofs.Fields.{bits-small}
 use Rattle.paper.proofs.StoreFacts.{both-true}
@@ -79,7 +79,7 @@ along-exact bytes f (l ∷ ls) s =
     go (sameFamily (l .family) f) _ _ _ _ first later
   where
     go : (b : Bool) (fs gs : List Field) (xs ys : List (String × ℤ)) → EachExact fs xs (doublesOf fs xs) → EachExact gs ys (doublesOf gs ys)
-        → EachExact (pick b fs gs) (pick b xs ys) (doublesOf (pick b fs gs) (pick b xs ys))
+        → EachExact (cond b fs gs) (cond b xs ys) (doublesOf (cond b fs gs) (cond b xs ys))
     go true fs gs xs ys x y = x
     go false fs gs xs ys x y = y
 

@@ -16,7 +16,7 @@ use Rattle.ask.specs.Answered.{askPlace}
 use Rattle.ask.proofs.Tells.{AnswerThere, answer-there}
 use Rattle.orbit.specs.declared.Placed.{Placed}
 use Rattle.orbit.specs.declared.Placed.the-variants.{At, IssuesDiffer, OtherSatellite, Refused}
-use Rattle.orbit.specs.Got.{placedAnswer, placePlaced, numbersPlace, Within, partPlaced}
+use Rattle.orbit.specs.Got.{placedAnswer, placePlaced, numbersPlace, PlacedWithin, partPlaced}
 
 -- ---- the tests of CED data
 module _ (sat : ℕ) (bytes : List ℕ) where
@@ -56,9 +56,9 @@ module _ (f : Family) (sat : ℕ) (room : List ℕ) where
     fails k t = (rw (number-is, t), rw (number-is, t, eqb·suc-zero k))
 
   -- asking was refused
-  pub refuses : (k : ℕ) → refused k ≡ askAnswer f sat room → Answers (refused k) 0
+  pub refuses-numbers : (k : ℕ) → refused k ≡ askAnswer f sat room → Answers (refused k) 0
   unfolding askAnswer numbersAnswer numbersNumber numbersPlace
-  refuses k e = go (askNumber f sat room) _ _ _ _ e
+  refuses-numbers k e = go (askNumber f sat room) _ _ _ _ e
     where
       go : (n : ℕ) (v w : List ℕ) (t p : ℕ) → refused k ≡ answer n v
           → (refused k ≡ answer (unless (eqb n 0) n t) w) × (0 ≡ cond (eqb (unless (eqb n 0) n t) 0) p 0)
@@ -136,7 +136,7 @@ module _ (t : Bool) (isCED : t ≡ false) (sat : ℕ) (room v : List ℕ) (place
 -- ---- the place, as it is answered
 module _ (f : Family) (sat : ℕ) (room : List ℕ) where
   pub placed-there : (r : Placed) → placedAnswer r ≡ numbersAnswer f sat room → placePlaced r ≡ numbersPlace f sat room
-      → Within f r (length room) × (partPlaced f r room ≡ numbersData f sat room)
+      → PlacedWithin f r (length room) × (partPlaced f r room ≡ numbersData f sat room)
   placed-there (At place n gst) e p = let there = numbers-there f sat room _ place e p in (there .inside, there .bytes)
   placed-there IssuesDiffer e p = (tt, no-numbers f sat room 21 e)
   placed-there OtherSatellite e p = (tt, no-numbers f sat room 22 e)

@@ -8,7 +8,7 @@ use Rattle.paper.specs.Parts.{part}
 use Rattle.paper.specs.Record.{Family, size, dataAt, dataBytes}
 use Rattle.paper.specs.Orbit.{numbersNumber}
 use Rattle.ask.specs.Answered.{askPlace}
-use Rattle.refusals.specs.Reply.{numberOf}
+use Rattle.refusals.specs.Reply.{refusalNumber}
 use Rattle.orbit.specs.Numbers.{orbitFrom, timingFrom}
 use Rattle.orbit.specs.declared.Orbit.{Orbit}
 use Rattle.orbit.specs.declared.TimingNumbers.{TimingNumbers}
@@ -23,7 +23,7 @@ abbrev pub placedAnswer : Placed → Answer
 placedAnswer (At place n gst) = done (n ∷ gst .wn .0 ∷ gst .tow .0 ∷ [])
 placedAnswer placed-21 = refused 21
 placedAnswer placed-22 = refused 22
-placedAnswer (placed-refused why) = refused (numberOf why)
+placedAnswer (placed-refused why) = refused (refusalNumber why)
 
 -- where the record starts in the room; 0 beside a refusal
 abbrev pub placePlaced : Placed → ℕ
@@ -36,11 +36,11 @@ unfoldable pub numbersPlace : Family → ℕ → List ℕ → ℕ
 numbersPlace f sat room = cond (eqb (numbersNumber f sat room) 0) (askPlace f sat room) 0
 
 -- a record there lies in a room of so many bytes
-abbrev pub Within : Family → Placed → ℕ → Type 0
-Within f (At place n gst) long = place + size f ≤ long
-Within f placed-21 long = Unit {0}
-Within f placed-22 long = Unit {0}
-Within f (placed-refused why) long = Unit {0}
+abbrev pub PlacedWithin : Family → Placed → ℕ → Type 0
+PlacedWithin f (At place n gst) long = place + size f ≤ long
+PlacedWithin f placed-21 long = Unit {0}
+PlacedWithin f placed-22 long = Unit {0}
+PlacedWithin f (placed-refused why) long = Unit {0}
 
 -- its data; none beside a refusal
 abbrev pub partPlaced : Family → Placed → List ℕ → List ℕ
@@ -53,7 +53,7 @@ abbrev pub gotAnswer : GotOrbit → Answer
 gotAnswer (Found n gst orbit) = done (n ∷ gst .wn .0 ∷ gst .tow .0 ∷ [])
 gotAnswer IssuesDiffer = refused 21
 gotAnswer OtherSatellite = refused 22
-gotAnswer (Refused why) = refused (numberOf why)
+gotAnswer (Refused why) = refused (refusalNumber why)
 
 -- the numbers handed out; those of no data beside a refusal
 abbrev pub gotOrbit : GotOrbit → Orbit
@@ -64,7 +64,7 @@ gotOrbit (Refused why) = orbitFrom []
 
 abbrev pub gotTimingAnswer : GotTiming → Answer
 gotTimingAnswer (timing-found n gst timing) = done (n ∷ gst .wn .0 ∷ gst .tow .0 ∷ [])
-gotTimingAnswer (timing-refused why) = refused (numberOf why)
+gotTimingAnswer (timing-refused why) = refused (refusalNumber why)
 
 abbrev pub gotTiming : GotTiming → TimingNumbers
 gotTiming (timing-found n gst timing) = timing

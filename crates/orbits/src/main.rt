@@ -13,8 +13,8 @@ use libc::STDERR_FILENO;
 use libc::STDIN_FILENO;
 use libc::STDOUT_FILENO;
 use lines::Kind;
+use lines::LONGEST_ITEM;
 use lines::LONGEST_LINE;
-use lines::LONGEST_RECORD;
 use orbit::GotOrbit;
 use orbit::GotTiming;
 use orbit::Orbit;
@@ -296,7 +296,7 @@ fn goes_on(kind: Kind) -> bool {
 // The next item of standard input: whether the program goes on.
 fn next(room: &mut [u8]) -> bool {
     let mut head = [0u8; 1];
-    let mut body = [0u8; LONGEST_RECORD];
+    let mut body = [0u8; LONGEST_ITEM];
     if io::read_full(STDIN_FILENO, &mut head) < 1 {
         ended(false);
         return false;

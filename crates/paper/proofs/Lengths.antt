@@ -13,7 +13,7 @@ use Rattle.paper.specs.Parts.{onPart}
 use Rattle.paper.specs.Record.{Family, CED, Timing, dataBytes, ages, satelliteAt, countAt, agesAt, dataAt, size, satellite}
 use Rattle.paper.specs.Record.{count, mostCount, dataOf, withCount, withAges, neverThere, oldest, older, aged, blankRecord}
 use Rattle.paper.specs.Room.{markAt, weekAt, timeAt, headSize, slotSize, rowSize, recordOf, eachRecord}
-use Rattle.paper.specs.Word.{Owned, nothing, owns, owned, typeOf, taken, written, fedRecord}
+use Rattle.paper.specs.Word.{Owned, nothing, owns, owned, typeOf, takeover, written, fedRecord}
 use Rattle.paper.specs.Fresh.{blankSlot, blankRow}
 use Rattle.paper.specs.Feed.{agedRow, markedAt, lastGreatest, chosen, key, fedFamily, fedRow}
 use Rattle.paper.specs.Tag.{matches, credited}
@@ -47,9 +47,9 @@ pub length-blank : (f : Family) → length (blankRecord f) ≡ size f
 unfolding blankRecord
 length-blank f = keeps-neverThere f (replicate (size f) 0) (length-replicate (size f) 0)
 
-pub keeps-taken : (f : Family) (sat : ℕ) → Keeps (taken f sat) (size f)
-unfolding taken
-keeps-taken f sat r h = go (eqb (satellite r) sat || eqb (satellite r) 0)
+pub keeps-takeover : (f : Family) (sat : ℕ) → Keeps (takeover f sat) (size f)
+unfolding takeover
+keeps-takeover f sat r h = go (eqb (satellite r) sat || eqb (satellite r) 0)
   where
     mine : List ℕ
     mine = set r satelliteAt sat
@@ -85,7 +85,7 @@ keeps-written f (owns to from n age) word r h = go (changed (dataOf f r) to word
 pub keeps-fedRecord : (f : Family) (sat band : ℕ) (word : List ℕ) → Keeps (fedRecord f sat band word) (size f)
 unfolding fedRecord
 keeps-fedRecord f sat band word r h =
-    keeps-written f (owned f (typeOf word) band) word (taken f sat r) (keeps-taken f sat r h)
+    keeps-written f (owned f (typeOf word) band) word (takeover f sat r) (keeps-takeover f sat r h)
 
 pub keeps-credited : (k : ℕ) (f : Family) (sat : ℕ) (bits : List ℕ) (l : ℕ) → Keeps (credited f sat bits l) k
 unfolding credited

@@ -1,10 +1,10 @@
 -- What the checker opens to compute a call: each of these, named on an `unfolding` line, opens what its own line names. Assumes nothing.
-use Rattle.paper.specs.Time.{timeAt, sumOf, addSeconds, addSubframes, subframeOf, isSubframe, difference, isEarlier, goneBy}
+use Rattle.paper.specs.Time.{timeOfSeconds, sumOf, addSeconds, addSubframes, subframeOf, isSubframe, difference, isEarlier, goneBy}
 use Rattle.paper.specs.Bits.{putBit, moved, changed}
 use Rattle.paper.specs.Parts.{onPart, onParts, allParts, sumParts, firstFrom}
 use Rattle.paper.specs.Big.{be16, be32, put16, put32}
 use Rattle.paper.specs.Record.{sameList, sameBits, aged, greatest, least, blankRecord}
-use Rattle.paper.specs.Word.{table, ownedIn, taken, written, fedRecord}
+use Rattle.paper.specs.Word.{table, ownedIn, takeover, written, fedRecord}
 use Rattle.paper.specs.Room.{eachRecord, everyRecord, howMany, howManyIn}
 use Rattle.paper.specs.Store.{headerInRange, headerRest, satelliteAllowed, countHasSatellite, noBitPast, recordAllowed}
 use Rattle.paper.specs.Store.{slotAllowed, markAllowed, subframeAllowed, blankAllowed, mostIn, rowAllowed, isStore}
@@ -19,7 +19,7 @@ use Rattle.paper.specs.Answer.{tagRoom, candidateNumber, candidateData, 
 use Rattle.paper.specs.Call.{answerTo, partTo, roomAfter, run}
 
 unfoldable pub timesOpen : Unit {0}
-unfolding timeAt sumOf addSeconds addSubframes subframeOf isSubframe difference isEarlier goneBy
+unfolding timeOfSeconds sumOf addSeconds addSubframes subframeOf isSubframe difference isEarlier goneBy
 timesOpen = tt
 
 unfoldable pub bitsOpen : Unit {0}
@@ -39,7 +39,7 @@ unfolding sameList sameBits aged greatest least blankRecord
 recordsOpen = tt
 
 unfoldable pub wordsOpen : Unit {0}
-unfolding table ownedIn taken written fedRecord
+unfolding table ownedIn takeover written fedRecord
 wordsOpen = tt
 
 unfoldable pub roomOpen : Unit {0}

@@ -13,7 +13,7 @@ use Rattle.paper.specs.Bits.{moved, changed}
 use Rattle.paper.specs.Parts.{onPart}
 use Rattle.paper.specs.Record.{Family, CED, Timing, dataBytes, ages, satelliteAt, countAt, agesAt, dataAt, size, satellite}
 use Rattle.paper.specs.Record.{count, mostCount, agesOf, dataOf, withCount, withAges, neverThere, oldest, older, aged, blankRecord}
-use Rattle.paper.specs.Word.{owns, taken, written}
+use Rattle.paper.specs.Word.{owns, takeover, written}
 use Rattle.paper.specs.Tag.{matches, credited}
 use Rattle.paper.proofs.Big.{put16-other, put16-drop, be16-put16, be16-before}
 use Rattle.paper.proofs.Parts.{Keeps, length-part, getD-part, getD-same-before, onPart-length, onPart-part, onPart-take, onPart-before, onPart-drop, part-replicate}
@@ -27,8 +27,8 @@ same-count x y e = be16-before agesAt countAt x y e (omega arith)
 pub same-satellite : (x y : List ℕ) → take agesAt x ≡ take agesAt y → satellite x ≡ satellite y
 same-satellite x y e = getD-same-before agesAt satelliteAt x y e (omega arith)
 
-pub same-data : (f : Family) (x y : List ℕ) → drop (dataAt f) x ≡ drop (dataAt f) y → dataOf f x ≡ dataOf f y
-same-data f x y e = ap (take (dataBytes f)) e
+pub data-behind : (f : Family) (x y : List ℕ) → drop (dataAt f) x ≡ drop (dataAt f) y → dataOf f x ≡ dataOf f y
+data-behind f x y e = ap (take (dataBytes f)) e
 
 -- the last byte of a record is that of its data
 pub last-byte : (f : Family) (rec : List ℕ) → getD rec (size f - 1) 0 ≡ getD (dataOf f rec) (dataBytes f - 1) 0
@@ -50,7 +50,7 @@ module _ (c : ℕ) (rec : List ℕ) where
   withCount-ages f = ap (take (ages f)) (put16-drop rec countAt c agesAt (omega arith))
 
   pub withCount-data : (f : Family) → dataOf f (withCount c rec) ≡ dataOf f rec
-  withCount-data f = same-data f (withCount c rec) rec (put16-drop rec countAt c (dataAt f) (omega arith))
+  withCount-data f = data-behind f (withCount c rec) rec (put16-drop rec countAt c (dataAt f) (omega arith))
 
 -- ---- other ages
 module _ (f : Family) (new : List ℕ) (n : length new ≡ ages f) (rec : List ℕ) (l : length rec ≡ size f) where
@@ -62,7 +62,7 @@ module _ (f : Family) (new : List ℕ) (n : length new ≡ ages f) (rec : List �
 
   pub withAges-data : dataOf f (withAges f new rec) ≡ dataOf f rec
   withAges-data =
-      same-data f (withAges f new rec) rec
+      data-behind f (withAges f new rec) rec
       (onPart-drop (λ (_ : List ℕ). new) (ages f) (keeps-const (ages f) new n) agesAt rec (omega arith) (dataAt f) (omega arith))
 
 -- ---- ages that rise
@@ -89,7 +89,7 @@ module _ (f : Family) (by : ℕ) (rec : List ℕ) (l : length rec ≡ size f) wh
   aged-drop = onPart-drop (map (older by)) (ages f) (keeps-map (ages f) (older by)) agesAt rec ages-inside (dataAt f) (omega arith)
 
   pub aged-data : dataOf f (aged f by rec) ≡ dataOf f rec
-  aged-data = same-data f (aged f by rec) rec aged-drop
+  aged-data = data-behind f (aged f by rec) rec aged-drop
 
 -- what is more than the greatest age may be held there first
 older-held : (by : ℕ) → older (min oldest by) ≡ older by
@@ -121,9 +121,9 @@ module _ (f : Family) (sat : ℕ) (rec : List ℕ) (l : length rec ≡ size f) w
   over-head : take agesAt takenOver ≡ take agesAt (withCount 0 mine)
   over-head = withAges-head f (replicate (ages f) oldest) (length-replicate (ages f) oldest) (withCount 0 mine) length-cleared
 
-  pub taken-satellite : satellite (taken f sat rec) ≡ sat
-  unfolding taken
-  taken-satellite = go (heldOrFree sat rec)
+  pub takeover-satellite : satellite (takeover f sat rec) ≡ sat
+  unfolding takeover
+  takeover-satellite = go (heldOrFree sat rec)
     where
       mine-satellite : satellite mine ≡ sat
       mine-satellite = getD-set-same rec satelliteAt sat 0 (omega arith)
@@ -132,9 +132,9 @@ module _ (f : Family) (sat : ℕ) (rec : List ℕ) (l : length rec ≡ size f) w
       go true = mine-satellite
       go false = same-satellite takenOver (withCount 0 mine) over-head ∙ withCount-satellite 0 mine ∙ mine-satellite
 
-  pub taken-count : count (taken f sat rec) ≡ cond (heldOrFree sat rec) (count rec) 0
-  unfolding taken be16
-  taken-count = go (heldOrFree sat rec)
+  pub takeover-count : count (takeover f sat rec) ≡ cond (heldOrFree sat rec) (count rec) 0
+  unfolding takeover be16
+  takeover-count = go (heldOrFree sat rec)
     where
       go : (b : Bool) → count (cond b mine takenOver) ≡ cond b (count rec) 0
       go true =
@@ -144,20 +144,20 @@ module _ (f : Family) (sat : ℕ) (rec : List ℕ) (l : length rec ≡ size f) w
           )
       go false = same-count takenOver (withCount 0 mine) over-head ∙ withCount-count 0 mine (omega (arith, length-mine))
 
-  pub taken-ages : agesOf f (taken f sat rec) ≡ cond (heldOrFree sat rec) (agesOf f rec) (replicate (ages f) oldest)
-  unfolding taken
-  taken-ages = go (heldOrFree sat rec)
+  pub takeover-ages : agesOf f (takeover f sat rec) ≡ cond (heldOrFree sat rec) (agesOf f rec) (replicate (ages f) oldest)
+  unfolding takeover
+  takeover-ages = go (heldOrFree sat rec)
     where
       go : (b : Bool) → agesOf f (cond b mine takenOver) ≡ cond b (agesOf f rec) (replicate (ages f) oldest)
       go true = ap (take (ages f)) (drop-set-lt agesAt rec satelliteAt sat (omega arith))
       go false = withAges-ages f (replicate (ages f) oldest) (length-replicate (ages f) oldest) (withCount 0 mine) length-cleared
 
-  pub taken-data : dataOf f (taken f sat rec) ≡ dataOf f rec
-  unfolding taken
-  taken-data = go (heldOrFree sat rec)
+  pub takeover-data : dataOf f (takeover f sat rec) ≡ dataOf f rec
+  unfolding takeover
+  takeover-data = go (heldOrFree sat rec)
     where
       mine-data : dataOf f mine ≡ dataOf f rec
-      mine-data = same-data f mine rec (drop-set-lt (dataAt f) rec satelliteAt sat (omega arith))
+      mine-data = data-behind f mine rec (drop-set-lt (dataAt f) rec satelliteAt sat (omega arith))
 
       go : (b : Bool) → dataOf f (cond b mine takenOver) ≡ dataOf f rec
       go true = mine-data
@@ -209,7 +209,7 @@ module _ (f : Family) (to from n age : ℕ) (word rec : List ℕ) (l : length re
 
   touched-data : age < ages f → dataOf f touched ≡ moved (dataOf f rec) to word from n
   touched-data h =
-      same-data f touched move (drop-set-lt (dataAt f) move (agesAt + age) 0 (omega arith))
+      data-behind f touched move (drop-set-lt (dataAt f) move (agesAt + age) 0 (omega arith))
       ∙ onPart-part (λ (x : List ℕ). moved x to word from n) (dataBytes f) keeps-move (dataAt f) rec data-inside
 
   pub written-satellite : satellite (written f (owns to from n age) word rec) ≡ satellite rec

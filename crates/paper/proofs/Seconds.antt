@@ -11,7 +11,7 @@ use lib.IntN.{ℤ, pos, negsuc, natAbs, negℤ, subℕ, _+ℤ_, _-ℤ_, _*ℤ_}
 use lib.Signed.{leZ, nonNeg, quotZ}
 use borrow.Author.Tests.{ltb-true, ltb-false, lt-ltb}
 use Rattle.paper.specs.Number.{Answer, number, values, done, refused}
-use Rattle.paper.specs.Time.{weekSeconds, weekSubframes, subframeSeconds, lastWeek, mostSubframes, isTime, secondsOf, timeAt, sumOf, addSubframes}
+use Rattle.paper.specs.Time.{weekSeconds, weekSubframes, subframeSeconds, lastWeek, mostSubframes, isTime, secondsOf, timeOfSeconds, sumOf, addSubframes}
 use Rattle.paper.specs.Time.{difference, subframesOf, isEarlier, goneBy}
 
 -- ---- whole numbers as differences of natural ones
@@ -70,8 +70,8 @@ module _ (w t : ℕ) (z : ℤ) (a b : ℕ) (h : Less z a b) where
   abbrev Sums : Answer → Type 0
   Sums s = number s ≡ 0 → secondsIn s + b ≡ secondsOf w t + a
 
-  at-sums : (x : ℤ) → Less x (secondsOf w t + a) (0 + b) → Sums (timeAt x)
-  unfolding timeAt
+  at-sums : (x : ℤ) → Less x (secondsOf w t + a) (0 + b) → Sums (timeOfSeconds x)
+  unfolding timeOfSeconds
   at-sums (pos s) l = go (leb (s / weekSeconds) lastWeek)
     where
       go : (in-weeks : Bool) → Sums (cond in-weeks (done (s / weekSeconds ∷ s % weekSeconds ∷ [])) (refused 7))
@@ -83,7 +83,7 @@ module _ (w t : ℕ) (z : ℤ) (a b : ℕ) (h : Less z a b) where
   unfolding sumOf
   sum-seconds = go (leZ z (negℤ (pos weekSeconds)))
     where
-      go : (back : Bool) → Sums (cond back (refused 7) (timeAt (pos (secondsOf w t) +ℤ z)))
+      go : (back : Bool) → Sums (cond back (refused 7) (timeOfSeconds (pos (secondsOf w t) +ℤ z)))
       go true e = absurd (omega arith)
       go false e = at-sums (pos (secondsOf w t) +ℤ z) (sum-less (pos (secondsOf w t)) z (secondsOf w t) 0 a b (omega arith) h) e
 

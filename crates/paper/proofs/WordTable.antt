@@ -1,6 +1,6 @@
 -- The table of words: each line's two ranges are of one length and lie in the record's bits and in the word's, and the lines of a
 -- family cover its record. So what a word owns lies in bounds. Assumes nothing.
-use mathlib.Core.Bool.{Bool, true, false, _&&_, _||_, not, false≢true}
+use mathlib.Core.Bool.{Bool, true, false, cond, _&&_, _||_, not, false≢true}
 use mathlib.Core.List.{List, [], _∷_}
 use mathlib.Core.Path.{_≡_, refl, sym}
 use Prim.Native.Nat.{ℕ, _+_, _-_, _<_, _≤_}
@@ -8,7 +8,7 @@ use native.Mathlib.Omega.{arith}
 use lib.Dec.{eqb, leb, ltb}
 use borrow.Author.Tests.{ltb-true, leb-true, eqb-true}
 use Rattle.paper.specs.Record.{Family, CED, Timing, sameFamily, recordBits, ages}
-use Rattle.paper.specs.Word.{Line, table, agrees, allAgree, covers, Owned, nothing, owns, InBounds, pick, ownedIn, owned, wordBits}
+use Rattle.paper.specs.Word.{Line, table, agrees, allAgree, covers, Owned, nothing, owns, InBounds, ownedIn, owned, wordBits}
 use Rattle.paper.proofs.StoreFacts.{both-true}
 
 pub table-agrees : allAgree table ≡ true
@@ -65,7 +65,7 @@ in-bounds (l ∷ ls) e f k band =
     here = owns (l .recordFrom) (l .wordFrom) (l .recordTo - l .recordFrom) (l .age)
 
     go : agrees l ≡ true → InBounds f (ownedIn ls f k band) → (b : Bool) → this && type && onBand ≡ b
-        → InBounds f (pick b here (ownedIn ls f k band))
+        → InBounds f (cond b here (ownedIn ls f k band))
     go right rest true h =
         let a = both-true (this && type) onBand h in
         let c = both-true this type (a .0) in

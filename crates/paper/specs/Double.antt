@@ -21,7 +21,7 @@ fraction b = b % 2 ^ 52
 
 -- what they say, where the exponent is neither 0 nor 2047: (2^52 + fraction) × 2^(exponent - 1075), less than 0 where the sign is 1. That this
 -- is n × 2^-k, with both sides multiplied by 2^1075 and 2^k
-pub record Says (b below n k : ℕ) : Type 0 where
+pub record BitsSay (b below n k : ℕ) : Type 0 where
   pub sign : signBit b ≡ below
   pub least : 1 ≤ exponent b
   pub most : exponent b < 2047
@@ -30,8 +30,8 @@ pub record Says (b below n k : ℕ) : Type 0 where
 -- the bits b are those of z × 2^-k, exactly; 0 is plus zero, all bits zero
 abbrev pub Exactly : ℕ → ℤ → ℕ → Type 0
 Exactly b (pos zero) k = b ≡ 0
-Exactly b (pos (suc n)) k = Says b 0 (suc n) k
-Exactly b (negsuc n) k = Says b 1 (suc n) k
+Exactly b (pos (suc n)) k = BitsSay b 0 (suc n) k
+Exactly b (negsuc n) k = BitsSay b 1 (suc n) k
 
 -- such bits for a number n that is not 0, of at most 53 binary digits: the top digit is not written
 abbrev pub bitsFor : ℕ → ℕ → ℕ → ℕ

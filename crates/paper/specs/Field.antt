@@ -1,7 +1,7 @@
 -- STORE 20.1 to 20.3: the fields of the words, where they lie, and each as a whole number.
 use Prim.Native.Nat.{ℕ, zero, suc, _+_, _-_, _*_, _^_}
 use Prim.Native.String.{String}
-use mathlib.Core.Bool.{Bool, true, false, cond, _&&_}
+use mathlib.Core.Bool.{Bool, true, cond, _&&_}
 use mathlib.Core.List.{List, [], _∷_, _++_}
 use lib.Dec.{eqb, ltb}
 use lib.IntN.{ℤ, pos, negsuc}
@@ -94,13 +94,9 @@ layouts =
     ∷ word 10 (s "A0G" 16 (by 35) ∷ s "A1G" 12 (by 51) ∷ u "t0G" 8 plain ∷ u "WN0G" 6 plain ∷ [])
     ∷ []
 
-abbrev pub pick : {A : Type 0} → Bool → A → A → A
-pick true a b = a
-pick false a b = b
-
 unfoldable pub fieldsIn : List Layout → ℕ → List Field
 fieldsIn [] k = []
-fieldsIn (l ∷ ls) k = let r = fieldsIn ls k in pick (eqb (l .type) k) (l .fields) r
+fieldsIn (l ∷ ls) k = let r = fieldsIn ls k in cond (eqb (l .type) k) (l .fields) r
 
 -- the fields of a word of type k
 abbrev pub fieldsOf : ℕ → List Field
@@ -138,16 +134,16 @@ numbersAt bytes o (f ∷ fs) =
 -- the value under a name; the first one where there are several
 unfoldable pub named : {A : Type 0} → A → String → List (String × A) → A
 named none name [] = none
-named none name (x ∷ xs) = let r = named none name xs in pick (eqt (x .0) name) (x .1) r
+named none name (x ∷ xs) = let r = named none name xs in cond (eqt (x .0) name) (x .1) r
 
 -- STORE 20.2: where a word's fields start in a record's data, and in the word
 unfoldable pub inRecord : List Line → ℕ → ℕ
 inRecord [] k = 0
-inRecord (l ∷ ls) k = let r = inRecord ls k in pick (eqb (l .type) k) (l .recordFrom) r
+inRecord (l ∷ ls) k = let r = inRecord ls k in cond (eqb (l .type) k) (l .recordFrom) r
 
 unfoldable pub inWord : List Line → ℕ → ℕ
 inWord [] k = 0
-inWord (l ∷ ls) k = let r = inWord ls k in pick (eqb (l .type) k) (l .wordFrom) r
+inWord (l ∷ ls) k = let r = inWord ls k in cond (eqb (l .type) k) (l .wordFrom) r
 
 -- the numbers of a record's data that came by words of type k
 abbrev pub numbersOf : ℕ → List ℕ → List (String × ℤ)
@@ -156,10 +152,10 @@ numbersOf k bytes = numbersAt bytes (inRecord table k) (fieldsOf k)
 -- the fields of a family's record, and their numbers, word after word
 unfoldable pub fieldsAlong : List Line → Family → List Field
 fieldsAlong [] f = []
-fieldsAlong (l ∷ ls) f = let r = fieldsAlong ls f in pick (sameFamily (l .family) f) (fieldsOf (l .type) ++ r) r
+fieldsAlong (l ∷ ls) f = let r = fieldsAlong ls f in cond (sameFamily (l .family) f) (fieldsOf (l .type) ++ r) r
 
 unfoldable pub numbersAlong : List Line → Family → List ℕ → List (String × ℤ)
 numbersAlong [] f bytes = []
 numbersAlong (l ∷ ls) f bytes =
     let r = numbersAlong ls f bytes in
-    pick (sameFamily (l .family) f) (numbersOf (l .type) bytes ++ r) r
+    cond (sameFamily (l .family) f) (numbersOf (l .type) bytes ++ r) r

@@ -10,7 +10,7 @@ use Rattle.paper.specs.Satellite.{isSatellite}
 use Rattle.paper.specs.Bits.{bitAt}
 use Rattle.paper.specs.Parts.{onPart}
 use Rattle.paper.specs.Record.{Family, familyIf, recordBits, dataBytes}
-use Rattle.paper.specs.Field.{pick, bitsAt}
+use Rattle.paper.specs.Field.{bitsAt}
 use Rattle.paper.specs.Tag.{statusKnown}
 use Rattle.paper.specs.Answer.{roomFor}
 
@@ -57,7 +57,7 @@ afterPrnd h =
 
 -- tag 0 has no PRN of the data's satellite
 abbrev pub headFields : ℕ → Head → List (ℕ × ℕ)
-headFields form h = pick (isTagZero form) (afterPrnd h) ((prnWidth, h .prnd) ∷ afterPrnd h)
+headFields form h = cond (isTagZero form) (afterPrnd h) ((prnWidth, h .prnd) ∷ afterPrnd h)
 
 -- how many bits that PRN has in a form, and all the fields together
 abbrev pub prndWidth : ℕ → ℕ

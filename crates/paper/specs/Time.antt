@@ -48,13 +48,13 @@ abbrev pub secondsOf : ℕ → ℕ → ℕ
 secondsOf w t = w * weekSeconds + t
 
 -- the time so many seconds from the start of week 0; STORE 3.5: 7 outside of the weeks
-unfoldable pub timeAt : ℤ → Answer
-timeAt (pos s) = cond (leb (s / weekSeconds) lastWeek) (done (s / weekSeconds ∷ s % weekSeconds ∷ [])) (refused 7)
-timeAt (negsuc s) = refused 7
+unfoldable pub timeOfSeconds : ℤ → Answer
+timeOfSeconds (pos s) = cond (leb (s / weekSeconds) lastWeek) (done (s / weekSeconds ∷ s % weekSeconds ∷ [])) (refused 7)
+timeOfSeconds (negsuc s) = refused 7
 
 -- STORE 3.5: the exact sum; 7 for a week or more back
 unfoldable pub sumOf : ℕ → ℕ → ℤ → Answer
-sumOf w t s = cond (leZ s (negℤ (pos weekSeconds))) (refused 7) (timeAt (pos (secondsOf w t) +ℤ s))
+sumOf w t s = cond (leZ s (negℤ (pos weekSeconds))) (refused 7) (timeOfSeconds (pos (secondsOf w t) +ℤ s))
 
 -- the call: 5, then 7
 unfoldable pub addSeconds : ℕ → ℕ → ℤ → Answer

@@ -70,16 +70,12 @@ abbrev pub InBounds : Family → Owned → Type 0
 InBounds f nothing = Unit {0}
 InBounds f (owns to from n age) = (to + n ≤ recordBits f) × (from + n ≤ wordBits) × (age < ages f)
 
-abbrev pub pick : Bool → Owned → Owned → Owned
-pick true a b = a
-pick false a b = b
-
 -- the line for a family, a type and a band (STORE 5.3), as what the word owns
 unfoldable pub ownedIn : List Line → Family → ℕ → ℕ → Owned
 ownedIn [] f k band = nothing
 ownedIn (l ∷ ls) f k band =
     let r = ownedIn ls f k band in
-    pick (sameFamily (l .family) f && eqb (l .type) k && (not (l .onlyE1B) || eqb band 0))
+    cond (sameFamily (l .family) f && eqb (l .type) k && (not (l .onlyE1B) || eqb band 0))
     (owns (l .recordFrom) (l .wordFrom) (l .recordTo - l .recordFrom) (l .age))
     r
 
@@ -91,8 +87,8 @@ abbrev pub typeOf : List ℕ → ℕ
 typeOf word = getD word 0 0 / 4
 
 -- STORE 10.6: the takeover
-unfoldable pub taken : Family → ℕ → List ℕ → List ℕ
-taken f sat rec =
+unfoldable pub takeover : Family → ℕ → List ℕ → List ℕ
+takeover f sat rec =
     let mine = set rec satelliteAt sat in
     cond (eqb (satellite rec) sat || eqb (satellite rec) 0) mine (neverThere f (withCount 0 mine))
 
@@ -108,4 +104,4 @@ written f (owns to from n age) word rec =
 
 -- the record that is chosen for a word
 unfoldable pub fedRecord : Family → ℕ → ℕ → List ℕ → List ℕ → List ℕ
-fedRecord f sat band word rec = let t = taken f sat rec in written f (owned f (typeOf word) band) word t
+fedRecord f sat band word rec = let t = takeover f sat rec in written f (owned f (typeOf word) band) word t

@@ -2,7 +2,7 @@
 use native.Mathlib.Omega.{arith}
 use mathlib.Core.Path.{_≡_, ap, _∙_}
 use Prim.Native.Nat.{ℕ}
-use Rattle.refusals.specs.Reply.{numberOf}
+use Rattle.refusals.specs.Reply.{refusalNumber}
 use Rattle.refusals.proofs.Answers.{same-refusal}
 use Rattle.tags.specs.Candidates.{taggedAnswer}
 use Rattle.tags.specs.declared.Tagged.{Tagged}
@@ -15,7 +15,7 @@ pub same-tagged : (a b : Tagged) → taggedAnswer a ≡ taggedAnswer b → a ≡
 same-tagged (Taken n) (Taken m) e = let h : n ≡ m = cc in ap Taken h
 same-tagged (Taken n) (NotTaken w) e = absurd (let z : _≡_ {A = ℕ} 0 1 = cc in omega arith)
 same-tagged (NotTaken v) (Taken m) e = absurd (let z : _≡_ {A = ℕ} 0 1 = cc in omega arith)
-same-tagged (NotTaken v) (NotTaken w) e = let n : numberOf v ≡ numberOf w = cc in ap NotTaken (same-refusal v w n)
+same-tagged (NotTaken v) (NotTaken w) e = let n : refusalNumber v ≡ refusalNumber w = cc in ap NotTaken (same-refusal v w n)
 
 -- a count and a time, put together again
 found : ℕ → ℕ → ℕ → Asked
@@ -32,4 +32,4 @@ same-asked (Found x) (Found y) e =
     ∙ ap (found (y .authbits) (y .gst .wn .0)) times
 same-asked (Found x) (Refused w) e = absurd (let z : _≡_ {A = ℕ} 0 1 = cc in omega arith)
 same-asked (Refused v) (Found y) e = absurd (let z : _≡_ {A = ℕ} 0 1 = cc in omega arith)
-same-asked (Refused v) (Refused w) e = let n : numberOf v ≡ numberOf w = cc in ap Refused (same-refusal v w n)
+same-asked (Refused v) (Refused w) e = let n : refusalNumber v ≡ refusalNumber w = cc in ap Refused (same-refusal v w n)

@@ -20,7 +20,7 @@ use Rattle.history.proofs.Demand.{demand-3}
 use Rattle.since.specs.Brought.{Origin, brought, BitsHold, AgesHold, AfterFresh}
 use Rattle.since.proofs.Brought.{bits-hold, ages-hold, cop-holds, tag-holds}
 use Rattle.since.proofs.Asked.{time-holds}
-use Rattle.intake.specs.Input.{recordsOf}
+use Rattle.intake.specs.Input.{inputItems}
 use Rattle.intake.proofs.Calls.{room-of-calls}
 use Rattle.promises.specs.Outcomes.{Did, freshDid, feedDid, tagDid, resetDid, partDid, cFreshDid, cFeedDid, cTagDid, cResetDid, cPartDid, Deeds, deedsOf}
 use Rattle.promises.specs.Covered.{Made, Lent, Ran, wholes, history, Left, byRuns, byInput, Covered, sinceFresh, tagsOf, wordsOf}
@@ -83,7 +83,7 @@ left-is-run : {start : List ℕ} {calls : List Call} {now : List ℕ} → Left s
 unfolding run
 left-is-run (byRuns {start} {now} made ran) = ran-is-run start made now ran
 left-is-run (byInput {start} {now} traced parts input text read) =
-    read-in-parts traced parts input start text now read .1 ∙ room-of-calls start [] (recordsOf input)
+    read-in-parts traced parts input start text now read .1 ∙ room-of-calls start [] (inputItems input)
 
 -- since the fresh call
 since-fresh : (start now : List ℕ) (before : List Call) (d n rule : ℕ) (later : List Call) → Left start (later ++ (freshCall d n rule ∷ before)) now

@@ -8,7 +8,7 @@ use lib.ListN.{length, take, drop, replicate, take-append-drop}
 use lib.Seq.{take-append-le}
 use Rattle.paper.specs.Call.{run}
 use Rattle.text.proofs.Puts.{take-put}
-use Rattle.intake.specs.Input.{Item, Stage, going, ended, stageOf, itemsOf, itemsAtEnd, atStart, recordsOf, roomOf, linesOf, benchRoom, output}
+use Rattle.intake.specs.Input.{Item, Stage, going, ended, stageOf, itemsOf, itemsAtEnd, atStart, inputItems, roomOf, linesOf, benchRoom, output}
 use Rattle.intake.specs.Reader.{stageIn, readerOf, readerBytes, endFits, itemsEnded}
 use Rattle.intake.proofs.Along.{stages, items, rooms, texts, items-ended, stages-ended}
 use Rattle.intake.proofs.State.{Proper, none-unfinished, of-proper, stage-back}
@@ -117,7 +117,7 @@ read-from traced (bytes ∷ parts) input s room text now p R =
 
 -- from the start of a reader on
 pub read-in-parts : ReadInParts
-unfolding recordsOf
+unfolding inputItems
 read-in-parts traced parts input room text now R = read-from traced parts input atStart room text now none-unfinished R
 
 -- what the program prints: its state and its room are all zero at the start
@@ -126,6 +126,6 @@ unfolding output readerOf
 printed-is-output traced parts input text now R = read-in-parts traced parts input (replicate benchRoom 0) text now R .0
 
 -- what stands behind the end of an input changes nothing
-pub behind-the-end : (a b : List ℕ) (k : ℕ) → stageOf atStart a ≡ ended k → recordsOf (a ++ b) ≡ recordsOf a
-unfolding recordsOf itemsAtEnd
+pub behind-the-end : (a b : List ℕ) (k : ℕ) → stageOf atStart a ≡ ended k → inputItems (a ++ b) ≡ inputItems a
+unfolding inputItems itemsAtEnd
 behind-the-end a b k e = rest-then atStart a b ∙ rw (e, items-ended k b, stages-ended k b) refl

@@ -10,7 +10,7 @@ use Rattle.paper.specs.Call.{Call, freshCall, answerTo, roomAfter, run}
 use Rattle.stays.specs.Lent.{onWhole}
 use Rattle.history.specs.Line.{Place, Tag, tags}
 use Rattle.since.specs.Brought.{Origin, brought}
-use Rattle.intake.specs.Input.{atStart, recordsOf, callsFrom}
+use Rattle.intake.specs.Input.{atStart, inputItems, callsFrom}
 use Rattle.intake.specs.Reader.{readerOf}
 use Rattle.promises.specs.Outcomes.{Did, Deeds, deedsOf}
 use Rattle.promises.specs.Inputs.{Read}
@@ -48,7 +48,7 @@ history start (made ∷ before) = wholes (made .bytes) (run start (history start
 
 -- the calls of a whole input
 abbrev pub callsOfInput : List ℕ → List ℕ → List Call
-callsOfInput room input = callsFrom room [] (recordsOf input)
+callsOfInput room input = callsFrom room [] (inputItems input)
 
 -- these calls left the room: whatever ran, or a whole input that was read in parts
 pub data Left : List ℕ → List Call → List ℕ → Type 1 where

@@ -13,7 +13,7 @@ use Rattle.paper.specs.Call.{Call, answerTo}
 use Rattle.history.specs.Line.{Place, Inside, at, Tag}
 use Rattle.history.specs.Demand.{Earned, answeringPlace, Behind}
 use Rattle.since.specs.Brought.{BitsHold, AgesHold, CopHolds, TagHolds, TimeHolds}
-use Rattle.intake.specs.Input.{atStart, recordsOf, roomOf, linesOf, benchRoom, output}
+use Rattle.intake.specs.Input.{atStart, inputItems, roomOf, linesOf, benchRoom, output}
 use Rattle.intake.specs.Reader.{readerOf, readerBytes}
 use Rattle.orbit.specs.Numbers.{orbitFrom, timingFrom}
 use Rattle.promises.specs.Outcomes.{Asking, HandedOut, askedBy, OrbitAsking, orbitBy, NumbersAsking, numbersBy}
@@ -112,7 +112,7 @@ abbrev pub ReadInParts : Type 0
 ReadInParts =
     (traced : Bool) (parts : List (List ℕ)) (input room text now : List ℕ)
     → Read traced parts input (readerOf atStart) room text now
-    → (text ≡ linesOf traced room (recordsOf input)) × (now ≡ roomOf room (recordsOf input))
+    → (text ≡ linesOf traced room (inputItems input)) × (now ≡ roomOf room (inputItems input))
 
 -- so from a reader and a room of zeros the lines are those of the program: `printed-is-output`
 abbrev pub PrintedIsOutput : Type 0

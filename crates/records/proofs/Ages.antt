@@ -12,12 +12,12 @@ use Rattle.paper.specs.Record.{Family, ages, agesAt, agesOf, older, aged, great
 use Rattle.paper.proofs.Parts.{onPart-by}
 
 -- ---- a list copied over another of its length: what was passed is the same in both
-pub copy-turn : (to from : List ℕ) (i : ℕ) → i < length to → i < length from → take i to ≡ take i from
+pub ages-turn : (to from : List ℕ) (i : ℕ) → i < length to → i < length from → take i to ≡ take i from
     → take (i + 1) (set to i (getD from i 0)) ≡ take (i + 1) from
-copy-turn to from i h g e = rw (add-one, take-suc-set to i (getD from i 0) h, take-suc from i 0 g, e)
+ages-turn to from i h g e = rw (add-one, take-suc-set to i (getD from i 0) h, take-suc from i 0 g, e)
 
-pub copy-done : (to from : List ℕ) (i : ℕ) → length to ≤ i → length from ≤ i → take i to ≡ take i from → to ≡ from
-copy-done to from i h g e = sym (take-all i to h) ∙ e ∙ take-all i from g
+pub ages-done : (to from : List ℕ) (i : ℕ) → length to ≤ i → length from ≤ i → take i to ≡ take i from → to ≡ from
+ages-done to from i h g e = sym (take-all i to h) ∙ e ∙ take-all i from g
 
 -- ---- f done to each
 each-suc : (f : ℕ → ℕ) (l : List ℕ) (i v : ℕ) → i < length l → v ≡ f (getD l i 0)

@@ -8,14 +8,14 @@ use lib.Dec.{eqb, eqb·suc-zero}
 use Prim.Native.Nat.{ℕ, zero, suc, _+_, _≤_}
 use Rattle.paper.specs.Number.{Answer, done, refused, number, values, answer}
 use Rattle.paper.specs.Answer.{roomFor, partFor}
-use Rattle.refusals.specs.Reply.{numberOf, replyAnswer}
+use Rattle.refusals.specs.Reply.{refusalNumber, replyAnswer}
 use Rattle.refusals.specs.declared.Refusal.{Refusal}
 use Rattle.refusals.specs.declared.Refusal.the-variants.{Sizes, TooShort, NotAStore, NoSatellite, TowTooLarge, NotAStart, TimeArithmetic, NotAllowed}
 use Rattle.refusals.specs.declared.Refusal.the-variants.{UnknownCode, NoCandidate, OtherData, NotEnough, Earlier, Dummy, VerdictNo, StatusAddsNothing, AgeUnknown}
 use Rattle.refusals.specs.declared.Reply.{Reply}
 use Rattle.refusals.specs.declared.Reply.the-variants.{Done, Refused}
 
--- the refusal of a number, back from `numberOf`
+-- the refusal of a number, back from `refusalNumber`
 refusalOf : ℕ → Refusal
 refusalOf n =
     (cond (eqb n 1) Sizes
@@ -36,7 +36,7 @@ refusalOf n =
     (cond (eqb n 18) StatusAddsNothing
     AgeUnknown))))))))))))))))
 
-back : (why : Refusal) → refusalOf (numberOf why) ≡ why
+back : (why : Refusal) → refusalOf (refusalNumber why) ≡ why
 unfolding refusalOf
 back Sizes = refl
 back TooShort = refl
@@ -57,11 +57,11 @@ back StatusAddsNothing = refl
 back AgeUnknown = refl
 
 -- two refusals with one number are one
-pub same-refusal : (a b : Refusal) → numberOf a ≡ numberOf b → a ≡ b
+pub same-refusal : (a b : Refusal) → refusalNumber a ≡ refusalNumber b → a ≡ b
 same-refusal a b e = sym (back a) ∙ ap refusalOf e ∙ back b
 
 -- no refusal has the number 0
-pub above-zero : (why : Refusal) → 1 ≤ numberOf why
+pub above-zero : (why : Refusal) → 1 ≤ refusalNumber why
 above-zero Sizes = omega arith
 above-zero TooShort = omega arith
 above-zero NotAStore = omega arith
@@ -81,7 +81,7 @@ above-zero StatusAddsNothing = omega arith
 above-zero AgeUnknown = omega arith
 
 -- and none has a number that reading an orbit, 21 and 22, or reading a message, 26, has of its own
-pub never-theirs : (why : Refusal) → (numberOf why ≢ 21) × (numberOf why ≢ 22) × (numberOf why ≢ 26)
+pub never-theirs : (why : Refusal) → (refusalNumber why ≢ 21) × (refusalNumber why ≢ 22) × (refusalNumber why ≢ 26)
 never-theirs Sizes = (omega arith, omega arith, omega arith)
 never-theirs TooShort = (omega arith, omega arith, omega arith)
 never-theirs NotAStore = (omega arith, omega arith, omega arith)
@@ -105,7 +105,7 @@ pub same-reply : (a b : Reply) → replyAnswer a ≡ replyAnswer b → a ≡ b
 same-reply Done Done e = refl
 same-reply Done (Refused w) e = absurd (let z : _≡_ {A = ℕ} 0 1 = cc in omega arith)
 same-reply (Refused v) Done e = absurd (let z : _≡_ {A = ℕ} 0 1 = cc in omega arith)
-same-reply (Refused v) (Refused w) e = let n : numberOf v ≡ numberOf w = cc in ap Refused (same-refusal v w n)
+same-reply (Refused v) (Refused w) e = let n : refusalNumber v ≡ refusalNumber w = cc in ap Refused (same-refusal v w n)
 
 -- the answer for a number that is not 0 is its refusal
 pub answer-refused : (k : ℕ) (v : List ℕ) → 1 ≤ k → answer k v ≡ refused k
@@ -135,7 +135,7 @@ done-room n after room e = rw e
 
 -- a reply that refuses leaves the room, and one that is done has the number 0
 pub refuses : (r : Reply) (w : Refusal) (k : ℕ) (v after room : List ℕ) → r ≡ Refused w → replyAnswer r ≡ answer k v → room ≡ roomFor k after room
-refuses r w k v after room q e = refused-room (numberOf w) k v after room (ap replyAnswer (sym q) ∙ e)
+refuses r w k v after room q e = refused-room (refusalNumber w) k v after room (ap replyAnswer (sym q) ∙ e)
 
 pub does : (r : Reply) (k : ℕ) (v : List ℕ) → r ≡ Done → replyAnswer r ≡ answer k v → k ≡ 0
 does r k v q e = done-number k v [] (ap replyAnswer (sym q) ∙ e)

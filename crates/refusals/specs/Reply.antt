@@ -9,26 +9,26 @@ use Rattle.refusals.specs.declared.Reply.{Reply}
 use Rattle.refusals.specs.declared.Reply.the-variants.{Done, Refused}
 
 -- STORE 14.1: the numbers
-abbrev pub numberOf : Refusal → ℕ
-numberOf Sizes = 1
-numberOf TooShort = 2
-numberOf NotAStore = 3
-numberOf NoSatellite = 4
-numberOf TowTooLarge = 5
-numberOf NotAStart = 6
-numberOf TimeArithmetic = 7
-numberOf NotAllowed = 8
-numberOf UnknownCode = 9
-numberOf NoCandidate = 10
-numberOf OtherData = 11
-numberOf NotEnough = 12
-numberOf Earlier = 15
-numberOf Dummy = 16
-numberOf VerdictNo = 17
-numberOf StatusAddsNothing = 18
-numberOf AgeUnknown = 24
+abbrev pub refusalNumber : Refusal → ℕ
+refusalNumber Sizes = 1
+refusalNumber TooShort = 2
+refusalNumber NotAStore = 3
+refusalNumber NoSatellite = 4
+refusalNumber TowTooLarge = 5
+refusalNumber NotAStart = 6
+refusalNumber TimeArithmetic = 7
+refusalNumber NotAllowed = 8
+refusalNumber UnknownCode = 9
+refusalNumber NoCandidate = 10
+refusalNumber OtherData = 11
+refusalNumber NotEnough = 12
+refusalNumber Earlier = 15
+refusalNumber Dummy = 16
+refusalNumber VerdictNo = 17
+refusalNumber StatusAddsNothing = 18
+refusalNumber AgeUnknown = 24
 
 -- STORE 14.5: 0 with no values, or the refusal's number
 abbrev pub replyAnswer : Reply → Answer
 replyAnswer Done = done []
-replyAnswer (Refused why) = refused (numberOf why)
+replyAnswer (Refused why) = refused (refusalNumber why)

@@ -1,7 +1,7 @@
 // STORE 14: why a call refuses, and the reply of a call that has no values beside its number. Every number stands here, and only here.
 ghost use mathlib.Core.Path.{_≡_};
 ghost use Prim.Native.Nat.{_<_};
-ghost use Rattle.refusals.specs.Reply.{numberOf};
+ghost use Rattle.refusals.specs.Reply.{refusalNumber};
 
 // The numbers of STORE 14.1 that an input of records alone has, reading an orbit, or reading a message back; who answers one has a case for
 // it beside those below.
@@ -67,7 +67,7 @@ pub enum Reply {
 
 // The number of a refusal in the table.
 pub fn number(why: Refusal) -> u8
-    ensures { λ r. ⌜ r ≡ numberOf why ⌝ }
+    ensures { λ r. ⌜ r ≡ refusalNumber why ⌝ }
 {
     match why {
         Refusal::Sizes => 1,

@@ -47,7 +47,7 @@ module _ (w t : ℕ) (room row : List ℕ) (e : row ≡ rowOf (current room) roo
   moves-marked b h g = rw (← e, ← g, h)
 
 -- what the code knows of the rows before it copies: row c of d at `from`, the next row at `to`
-pub record Next (room : List ℕ) (d n c next from to : ℕ) : Type 0 where
+pub record NextRowAt (room : List ℕ) (d n c next from to : ℕ) : Type 0 where
   pub facts : InRange room
   pub rows : d ≡ depth room
   pub count : n ≡ slots room
@@ -56,7 +56,7 @@ pub record Next (room : List ℕ) (d n c next from to : ℕ) : Type 0 where
   pub source : from ≡ rowAt n c
   pub target : to ≡ rowAt n next
 
-module _ {room : List ℕ} {d n c next from to : ℕ} (s : Next room d n c next from to) where
+module _ {room : List ℕ} {d n c next from to : ℕ} (s : NextRowAt room d n c next from to) where
   -- the next row lies within the room, and the copy to it may go forward
   pub next-fits : to + rowSize n ≤ length room
   next-fits =

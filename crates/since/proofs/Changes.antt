@@ -15,12 +15,12 @@ use Rattle.paper.specs.Bits.{bitAt, moved}
 use Rattle.paper.specs.Time.{startOf, secondsOf}
 use Rattle.paper.specs.Big.{be16, be32}
 use Rattle.paper.specs.Record.{Family, CED, Timing, size, ages, agesAt, dataAt, dataBytes, satellite, agesOf, dataOf, oldest, older, aged, blankRecord}
-use Rattle.paper.specs.Word.{Owned, nothing, owns, InBounds, typeOf, taken, written, fedRecord}
+use Rattle.paper.specs.Word.{Owned, nothing, owns, InBounds, typeOf, takeover, written, fedRecord}
 use Rattle.paper.specs.Room.{headSize, week, time, marked}
 use Rattle.paper.proofs.Bits.{moved-before, moved-after, moved-inside}
 use Rattle.paper.proofs.Parts.{length-part}
-use Rattle.paper.proofs.Lengths.{keeps-taken}
-use Rattle.paper.proofs.RecordViews.{aged-satellite, aged-ages, aged-data, taken-satellite, taken-ages, taken-data, written-ages, written-data, blank-ages}
+use Rattle.paper.proofs.Lengths.{keeps-takeover}
+use Rattle.paper.proofs.RecordViews.{aged-satellite, aged-ages, aged-data, takeover-satellite, takeover-ages, takeover-data, written-ages, written-data, blank-ages}
 use Rattle.paper.proofs.WordTable.{owned-inBounds}
 use Rattle.history.proofs.Records.{written-same}
 use Rattle.since.specs.Brought.{Fed, Origin, noWord, fedAs, ownedBy, ownsAge, heldBy, StandIn, Holds, ageOf, MadeOf, Dated, AgeSays}
@@ -154,26 +154,26 @@ module _ (timed : Bool) (k : ℕ) (f : Family) (h : k < ages f) (row rec : List 
   o = ownedBy f w
 
   abbrev mine : List ℕ
-  mine = taken f (w .satellite) rec
+  mine = takeover f (w .satellite) rec
 
   abbrev after : List ℕ
   after = written f o (w .bytes) mine
 
   mine-long : length mine ≡ size f
-  mine-long = keeps-taken f (w .satellite) rec l
+  mine-long = keeps-takeover f (w .satellite) rec l
 
   after-satellite : satellite after ≡ w .satellite
-  after-satellite = written-same f (w .bytes) mine mine-long o ∙ taken-satellite f (w .satellite) rec l
+  after-satellite = written-same f (w .bytes) mine mine-long o ∙ takeover-satellite f (w .satellite) rec l
 
   after-data : dataOf f after ≡ afterWord o (w .bytes) (dataOf f rec)
   unfolding written
   after-data = go o (owned-inBounds f (typeOf (w .bytes)) (w .band))
     where
       go : (q : Owned) → InBounds f q → dataOf f (written f q (w .bytes) mine) ≡ afterWord q (w .bytes) (dataOf f rec)
-      go nothing b = taken-data f (w .satellite) rec l
+      go nothing b = takeover-data f (w .satellite) rec l
       go (owns to from n age) b =
           written-data f to from n age (w .bytes) mine mine-long (b .2)
-          ∙ ap (λ (d : List ℕ). moved d to (w .bytes) from n) (taken-data f (w .satellite) rec l)
+          ∙ ap (λ (d : List ℕ). moved d to (w .bytes) from n) (takeover-data f (w .satellite) rec l)
 
   -- its age: 0 where the word owns it, else that of the record as the satellite took it
   after-age : ageOf k f after ≡ cond (ownsAge k o) 0 (ageOf k f mine)
@@ -193,7 +193,7 @@ module _ (timed : Bool) (k : ℕ) (f : Family) (h : k < ages f) (row rec : List 
 
   -- a satellite keeps the ages of its record, and comes to another's without one
   mine-age : (own : Bool) → eqb (satellite rec) (w .satellite) ≡ own → ageOf k f mine ≡ cond own (ageOf k f rec) oldest
-  mine-age own e = ap (λ (r : List ℕ). getD r k 0) (taken-ages f (w .satellite) rec l) ∙ rw e (go own (eqb (satellite rec) 0) refl)
+  mine-age own e = ap (λ (r : List ℕ). getD r k 0) (takeover-ages f (w .satellite) rec l) ∙ rw e (go own (eqb (satellite rec) 0) refl)
     where
       go : (b free : Bool) → eqb (satellite rec) 0 ≡ free
           → getD (cond (b || free) (agesOf f rec) (replicate (ages f) oldest)) k 0 ≡ cond b (ageOf k f rec) oldest

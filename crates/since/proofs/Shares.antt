@@ -9,7 +9,7 @@ use native.Mathlib.Decide.{decLt}
 use lib.Dec.{eqb}
 use borrow.Author.Tests.{eqb-true}
 use Rattle.paper.specs.Record.{Family, CED, Timing, sameFamily, recordBits, ages}
-use Rattle.paper.specs.Word.{Line, table, Owned, nothing, owns, pick, ownedIn, owned}
+use Rattle.paper.specs.Word.{Line, table, Owned, nothing, owns, ownedIn, owned}
 use Rattle.paper.proofs.StoreFacts.{both-true}
 use Rattle.history.proofs.Calls.{one-family}
 
@@ -79,7 +79,7 @@ in-share (l ∷ ls) e f type band =
     this = owns (l .recordFrom) (l .wordFrom) (l .recordTo - l .recordFrom) (l .age)
 
     go : IsShare (l .family) this → IsShare f (ownedIn ls f type band) → (b : Bool) → mine && eqb (l .type) type && onBand ≡ b
-        → IsShare f (pick b this (ownedIn ls f type band))
+        → IsShare f (cond b this (ownedIn ls f type band))
     go own rest true h =
         let one = one-family (l .family) f (both-true mine (eqb (l .type) type) (both-true (mine && eqb (l .type) type) onBand h .0) .0) in
         rw one at own

@@ -7,29 +7,30 @@ use Rattle.paper.proofs.StoreFacts.{both-true}
 use Rattle.paper.proofs.Opens.{callsOpen}
 use Rattle.paper.proofs.Same.{list-true}
 use Rattle.paper.specs.Record.{sameList}
-use Rattle.starred.specs.Row.{Row, Every, every, lastAnswer, after, at, satellites, word}
-use Rattle.starred.specs.Table.{table, cedData, five, tag, accepted, later, laterRefused, laterAccepted, firstAgain, times, places, tags, gap, cameBack, notLatest, timed, backward, nearMisses}
+use Rattle.starred.specs.Row.{Example, EveryExample, everyExample, lastAnswer, after, recordIn, satellites, word}
+use Rattle.starred.specs.Table.{starredTable, cedData, fiveFed, tag, tagAccepted, wordLater, laterRefused, laterAccepted, firstAgain}
+use Rattle.starred.specs.Table.{times, places, tagExamples, gap, cameBack, notLatest, timed, earlierFirst, nearMisses}
 
-each : (rows : List Row) → every rows ≡ true → Every rows
-unfolding every
+each : (rows : List Example) → everyExample rows ≡ true → EveryExample rows
+unfolding everyExample
 each [] t = tt
 each (r ∷ rs) t =
-    let both = both-true (sameList (r .given) (r .said)) (every rs) t in
+    let both = both-true (sameList (r .given) (r .said)) (everyExample rs) t in
     (list-true (r .given) (r .said) (both .0), each rs (both .1))
 
 -- what the checker opens to compute a row
 unfoldable rowsOpen : Unit {0}
-unfolding lastAnswer after at satellites word
+unfolding lastAnswer after recordIn satellites word
 rowsOpen = tt
 
 unfoldable tablesOpen : Unit {0}
-unfolding cedData five tag accepted later laterRefused laterAccepted firstAgain times places tags gap cameBack notLatest timed backward nearMisses
+unfolding cedData fiveFed tag tagAccepted wordLater laterRefused laterAccepted firstAgain times places tagExamples gap cameBack notLatest timed earlierFirst nearMisses
 tablesOpen = tt
 
-computed : every table ≡ true
-unfolding every table tablesOpen rowsOpen callsOpen
+computed : everyExample starredTable ≡ true
+unfolding everyExample starredTable tablesOpen rowsOpen callsOpen
 computed = refl
 
 -- every starred example of STORE 18, and every near miss of 16.6, comes out as it says
-pub examples : Every table
-examples = each table computed
+pub examples : EveryExample starredTable
+examples = each starredTable computed

@@ -11,22 +11,22 @@ use Rattle.paper.specs.Record.{Family, sameList, satellite, count, agesOf, data
 use Rattle.paper.specs.Room.{slots, rowOf, recordOf}
 use Rattle.paper.specs.Call.{Call, answerTo, run}
 
-pub record Row : Type 0 where
+pub record Example : Type 0 where
   pub given : List ℕ
   pub said : List ℕ
 
 -- every row gives what is said
-abbrev pub Every : List Row → Type 0
-Every [] = Unit {0}
-Every (r ∷ rs) = (r .given ≡ r .said) × Every rs
+abbrev pub EveryExample : List Example → Type 0
+EveryExample [] = Unit {0}
+EveryExample (r ∷ rs) = (r .given ≡ r .said) × EveryExample rs
 
 -- the test that the checker computes over the whole table
-unfoldable pub every : List Row → Bool
-every [] = true
-every (r ∷ rs) = let t = every rs in sameList (r .given) (r .said) && t
+unfoldable pub everyExample : List Example → Bool
+everyExample [] = true
+everyExample (r ∷ rs) = let t = everyExample rs in sameList (r .given) (r .said) && t
 
-abbrev pub row : List ℕ → List ℕ → Row
-row given said = record { given = given; said = said }
+abbrev pub example : List ℕ → List ℕ → Example
+example given said = record { given = given; said = said }
 
 -- an answer as its number and its values
 abbrev pub flat : Answer → List ℕ
@@ -48,13 +48,13 @@ unfoldable pub after : List Call → List ℕ
 after calls = run (replicate 500 7) calls
 
 -- of slot i of row r: its record
-unfoldable pub at : Family → ℕ → ℕ → List ℕ → List ℕ
-at f r i room = recordOf f i (rowOf r room)
+unfoldable pub recordIn : Family → ℕ → ℕ → List ℕ → List ℕ
+recordIn f r i room = recordOf f i (rowOf r room)
 
 -- the satellites of the first n slots of a row, from slot 0
 unfoldable pub satellites : Family → ℕ → ℕ → List ℕ → List ℕ
 satellites f r zero room = []
-satellites f r (suc n) room = let l = satellites f r n room in l ++ (satellite (at f r n room) ∷ [])
+satellites f r (suc n) room = let l = satellites f r n room in l ++ (satellite (recordIn f r n room) ∷ [])
 
 -- a word: its type in the first six bits, and then the byte b throughout
 unfoldable pub word : ℕ → ℕ → List ℕ

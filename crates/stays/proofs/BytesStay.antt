@@ -14,7 +14,7 @@ use Rattle.paper.specs.Record.{Family, CED, Timing, dataBytes, ages, size, data
 use Rattle.paper.specs.Record.{withCount, older, aged, blankRecord, mostCount, agesAt, countAt, neverThere, satelliteAt, oldest}
 use Rattle.paper.specs.Room.{slotSize, base, rowSize, depth, slots, current, rowAt, recordAt, inSlot, eachRecord, everyRecord, headSize, headerSize}
 use Rattle.paper.specs.Room.{currentAt, zerosAt, timeRule, markAt, depthAt, weekAt, timeAt}
-use Rattle.paper.specs.Word.{Owned, nothing, owns, owned, typeOf, taken, written, fedRecord}
+use Rattle.paper.specs.Word.{Owned, nothing, owns, owned, typeOf, takeover, written, fedRecord}
 use Rattle.paper.specs.Fresh.{header, blankSlot, blankRow, fresh}
 use Rattle.paper.specs.Feed.{nextRow, moves, risesBy, copied, agedRow, advanced, markedAt, currentMarked, settled, chosen, fedFamily, fedRow, fed, fedCurrent}
 use Rattle.paper.specs.Tag.{matches, credited, tagged, familyOf, candidateRecord}
@@ -47,8 +47,8 @@ bytes-neverThere : (f : Family) (rec : List ℕ) → Bytes rec → Bytes (neverT
 bytes-neverThere f rec b =
     bytes-onPart (λ (_ : List ℕ). replicate (ages f) oldest) agesAt (ages f) rec b (λ _. bytes-replicate (ages f) oldest (omega arith))
 
-bytes-taken : (f : Family) (sat : ℕ) (rec : List ℕ) → sat < 256 → Bytes rec → Bytes (taken f sat rec)
-unfolding taken
+bytes-taken : (f : Family) (sat : ℕ) (rec : List ℕ) → sat < 256 → Bytes rec → Bytes (takeover f sat rec)
+unfolding takeover
 bytes-taken f sat rec h b = go (heldOrFree sat rec)
   where
     mine : List ℕ
@@ -81,7 +81,7 @@ bytes-written f (owns to from n age) word rec b = go (changed (dataOf f rec) to 
 
 bytes-fedRecord : (f : Family) (sat band : ℕ) (word rec : List ℕ) → sat < 256 → Bytes rec → Bytes (fedRecord f sat band word rec)
 unfolding fedRecord
-bytes-fedRecord f sat band word rec h b = bytes-written f (owned f (typeOf word) band) word (taken f sat rec) (bytes-taken f sat rec h b)
+bytes-fedRecord f sat band word rec h b = bytes-written f (owned f (typeOf word) band) word (takeover f sat rec) (bytes-taken f sat rec h b)
 
 bytes-credited : (f : Family) (sat : ℕ) (bits : List ℕ) (l : ℕ) (rec : List ℕ) → Bytes rec → Bytes (credited f sat bits l rec)
 unfolding credited

@@ -9,12 +9,12 @@ use borrow.Author.Tests.{ne-eqb}
 use lib.ListN.{length, getD, replicate}
 use Rattle.paper.specs.Bits.{moved, changed}
 use Rattle.paper.specs.Record.{lastWeight, Family, CED, Timing, dataBytes, size, dataAt, satellite, count, dataOf, withCount, aged, blankRecord, recordBits}
-use Rattle.paper.specs.Word.{Owned, nothing, owns, owned, typeOf, taken, written, fedRecord, InBounds}
+use Rattle.paper.specs.Word.{Owned, nothing, owns, owned, typeOf, takeover, written, fedRecord, InBounds}
 use Rattle.paper.specs.Tag.{matches, credited}
 use Rattle.paper.proofs.Bits.{last-kept}
 use Rattle.paper.proofs.Parts.{length-part}
-use Rattle.paper.proofs.Lengths.{keeps-taken}
-use Rattle.paper.proofs.RecordViews.{last-byte, same-last, withCount-satellite, withCount-count, withCount-data, aged-satellite, aged-count, aged-data, taken-satellite, taken-data}
+use Rattle.paper.proofs.Lengths.{keeps-takeover}
+use Rattle.paper.proofs.RecordViews.{last-byte, same-last, withCount-satellite, withCount-count, withCount-data, aged-satellite, aged-count, aged-data, takeover-satellite, takeover-data}
 use Rattle.paper.proofs.RecordViews.{written-satellite, written-count, written-data, credited-satellite, credited-data, credited-count, blank-satellite, blank-count, blank-data}
 use Rattle.paper.proofs.StoreFacts.{RecordFacts}
 use Rattle.paper.proofs.WordTable.{owned-inBounds}
@@ -59,12 +59,12 @@ uncounted-stays f most rec l R =
     R
 
 -- a satellite 1 to 36 is taken
-pub taken-stays : (f : Family) (most sat : ℕ) (rec : List ℕ) → length rec ≡ size f → 1 ≤ sat → sat ≤ most → RecordFacts f most rec → RecordFacts f most (taken f sat rec)
+pub taken-stays : (f : Family) (most sat : ℕ) (rec : List ℕ) → length rec ≡ size f → 1 ≤ sat → sat ≤ most → RecordFacts f most rec → RecordFacts f most (takeover f sat rec)
 taken-stays f most sat rec l one known R =
     record {
-      known = rw (taken-satellite f sat rec l) known;
-      none = λ z. absurd (omega (arith, one, sym (taken-satellite f sat rec l) ∙ z));
-      clear = same-end f rec (taken f sat rec) (taken-data f sat rec l) ∙ R .clear;
+      known = rw (takeover-satellite f sat rec l) known;
+      none = λ z. absurd (omega (arith, one, sym (takeover-satellite f sat rec l) ∙ z));
+      clear = same-end f rec (takeover f sat rec) (takeover-data f sat rec l) ∙ R .clear;
     }
 
 -- what a word owns lies within the record's bits
@@ -98,7 +98,7 @@ pub fedRecord-stays : (f : Family) (most sat band : ℕ) (word rec : List ℕ) �
     → RecordFacts f most rec → RecordFacts f most (fedRecord f sat band word rec)
 unfolding fedRecord
 fedRecord-stays f most sat band word rec l one known R =
-    written-stays f most (owned f (typeOf word) band) word (taken f sat rec) (keeps-taken f sat rec l) (owned-inBounds f (typeOf word) band)
+    written-stays f most (owned f (typeOf word) band) word (takeover f sat rec) (keeps-takeover f sat rec l) (owned-inBounds f (typeOf word) band)
     (taken-stays f most sat rec l one known R)
 
 unmatched : (f : Family) (sat : ℕ) (bits rec : List ℕ) → satellite rec ≢ sat → matches f sat bits rec ≡ false

@@ -11,18 +11,18 @@ use Rattle.svn.specs.declared.Svn.{Svn}
 use Rattle.svn.specs.declared.Satellite.the-variants.{Of, NoSatellite}
 
 -- a satellite: the number is one, and it is this
-pub found : (n : ℕ) (s : Svn) → satelliteAnswer (Of s) ≡ satelliteOf n → (isSatellite n ≡ true) × (s .0 ≡ n)
+pub told-satellite : (n : ℕ) (s : Svn) → satelliteAnswer (Of s) ≡ satelliteOf n → (isSatellite n ≡ true) × (s .0 ≡ n)
 unfolding satelliteOf
-found n s e = go (isSatellite n) e
+told-satellite n s e = go (isSatellite n) e
   where
     go : (b : Bool) → satelliteAnswer (Of s) ≡ cond b (done (n ∷ [])) (refused 4) → (b ≡ true) × (s .0 ≡ n)
     go true h = (refl, cc)
     go false h = absurd (let z : _≡_ {A = ℕ} 0 1 = cc in omega arith)
 
 -- none: the number is none
-pub none : (n : ℕ) → satelliteAnswer NoSatellite ≡ satelliteOf n → isSatellite n ≡ false
+pub told-no-satellite : (n : ℕ) → satelliteAnswer NoSatellite ≡ satelliteOf n → isSatellite n ≡ false
 unfolding satelliteOf
-none n e = go (isSatellite n) e
+told-no-satellite n e = go (isSatellite n) e
   where
     go : (b : Bool) → satelliteAnswer NoSatellite ≡ cond b (done (n ∷ [])) (refused 4) → b ≡ false
     go true h = absurd (let z : _≡_ {A = ℕ} 0 1 = cc in omega arith)

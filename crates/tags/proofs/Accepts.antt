@@ -34,9 +34,9 @@ module _ (f : Family) (given rec : List ℕ) (l : ℕ) (room : List ℕ) (sat : 
   abbrev hit : ℕ → List ℕ → List ℕ → Bool
   hit s x r = eqb (satellite r) s && sameList (inBits f (dataOf f r)) x
 
-  pub same-room : everyRecord f (credited f sat given l) room ≡ tagged f rec l room
+  pub same-tagged-room : everyRecord f (credited f sat given l) room ≡ tagged f rec l room
   unfolding tagged credited matches sameBits
-  same-room =
+  same-tagged-room =
       ap (λ (s : ℕ). everyRecord f (credited f s given l) room) (sym q)
       ∙ ap
       (λ (x : List ℕ). everyRecord f (λ (r : List ℕ). cond (hit (satellite rec) x r) (withCount (min mostCount (count r + l)) r) r) room)

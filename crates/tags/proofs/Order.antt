@@ -18,7 +18,7 @@ use Rattle.lookup.specs.declared.Found.the-variants.{At as Here}
 use Rattle.lookup.specs.Candidate.{candidateAt}
 use Rattle.lookup.proofs.Candidate.{candidate-shown}
 use Rattle.refusals.proofs.Answers.{refused-number, above-zero}
-use Rattle.refusals.specs.Reply.{numberOf, replyAnswer}
+use Rattle.refusals.specs.Reply.{refusalNumber, replyAnswer}
 use Rattle.refusals.specs.declared.Refusal.{Refusal}
 use Rattle.refusals.specs.declared.Reply.{Reply}
 use Rattle.refusals.specs.declared.Reply.the-variants.{Refused as No}
@@ -60,8 +60,8 @@ module _ (allowed known : Bool) (sat kind cop w t : ℕ) (room : List ℕ) where
   mack-refused k e later = four (isStore room) (isSatellite sat) (isTime t) (isStart t) k _ (refused-number (suc k) _ [] e)
 
   pub mack-refused-by : (r : Reply) (why : Refusal) → r ≡ No why → replyAnswer r ≡ mackAnswer sat t room
-      → (later : ℕ) → untilCandidate allowed known sat kind cop w t room later ≡ numberOf why
-  mack-refused-by r why q e later = go (numberOf why) (above-zero why) (ap replyAnswer (sym q) ∙ e)
+      → (later : ℕ) → untilCandidate allowed known sat kind cop w t room later ≡ refusalNumber why
+  mack-refused-by r why q e later = go (refusalNumber why) (above-zero why) (ap replyAnswer (sym q) ∙ e)
     where
       go : (k : ℕ) → 1 ≤ k → refused k ≡ mackAnswer sat t room → untilCandidate allowed known sat kind cop w t room later ≡ k
       go zero h f = absurd (omega arith)

@@ -14,7 +14,7 @@ use Rattle.paper.specs.Tag.{familyOf, copAllowed, kindKnown, candidateRecord}
 use Rattle.paper.specs.Answer.{partFor, untilCandidate, candidateNumber, candidateAnswer, candidateData}
 use Rattle.paper.proofs.Order.{unless-zero}
 use Rattle.paper.proofs.StoreFacts.{store-facts}
-use Rattle.refusals.specs.Reply.{numberOf}
+use Rattle.refusals.specs.Reply.{refusalNumber}
 use Rattle.refusals.specs.declared.Refusal.{Refusal}
 use Rattle.refusals.proofs.Answers.{above-zero, answer-refused, refused-part}
 use Rattle.stays.proofs.Rooms.{candidate-satellite}
@@ -43,12 +43,12 @@ module _ (sat kind cop w t : ℕ) (room : List ℕ) (r : Candidate) (p : Placed 
   known-as = placed-as (copAllowed cop) (kindKnown kind) sat kind cop w t room r p
 
   pub shown-refused : (why : Refusal) → r ≡ Refused why
-      → (refused (numberOf why) ≡ candidateAnswer sat kind cop w t room) × ([] ≡ candidateData sat kind cop w t room)
+      → (refused (refusalNumber why) ≡ candidateAnswer sat kind cop w t room) × ([] ≡ candidateData sat kind cop w t room)
   unfolding candidateData candidateNumber
   shown-refused why q =
-      let e : refused (numberOf why) ≡ candidateAnswer sat kind cop w t room =
-      sym (ap (λ (k : ℕ). answer k []) (known-as (Refused why) q 0) ∙ answer-refused (numberOf why) [] (above-zero why)) in
-      (e, refused-part (numberOf why) (candidateNumber sat kind cop w t room) [] _ e)
+      let e : refused (refusalNumber why) ≡ candidateAnswer sat kind cop w t room =
+      sym (ap (λ (k : ℕ). answer k []) (known-as (Refused why) q 0) ∙ answer-refused (refusalNumber why) [] (above-zero why)) in
+      (e, refused-part (refusalNumber why) (candidateNumber sat kind cop w t room) [] _ e)
 
   pub shown-at : (x : ℕ) → r ≡ At x
       → (done [] ≡ candidateAnswer sat kind cop w t room)

@@ -10,7 +10,7 @@ use Rattle.paper.specs.Tag.{familyOf, thirtyBefore, hasCandidate, tagged, taken
 use Rattle.paper.specs.Answer.{roomFor, untilCandidate, fromCandidate}
 use Rattle.lookup.specs.declared.Found.the-variants.{At as Here, Nothing}
 use Rattle.lookup.specs.Candidate.{candidateAt, CandidateThere}
-use Rattle.refusals.specs.Reply.{numberOf}
+use Rattle.refusals.specs.Reply.{refusalNumber}
 use Rattle.tags.specs.declared.Candidate.{Candidate}
 use Rattle.tags.specs.declared.Candidate.the-variants.{At, Refused}
 use Rattle.tags.specs.declared.Tagged.{Tagged}
@@ -22,19 +22,19 @@ Placed (At x) allowed known sat kind cop w t room =
     ((later : ℕ) → untilCandidate allowed known sat kind cop w t room later ≡ later)
     × CandidateThere (familyOf kind) sat cop w t room x
 Placed (Refused why) allowed known sat kind cop w t room =
-    (later : ℕ) → untilCandidate allowed known sat kind cop w t room later ≡ numberOf why
+    (later : ℕ) → untilCandidate allowed known sat kind cop w t room later ≡ refusalNumber why
 
 -- the same of the last two tests, 16 and 10, for the MACK time whose time less 30 s is w, t
 abbrev pub Sought : Candidate → Family → ℕ → ℕ → ℕ → ℕ → List ℕ → Type 0
 Sought (At x) f sat cop w t room = (eqb cop 0 ≡ false) × (candidateAt f sat cop w t room ≡ Here x)
 Sought (Refused why) f sat cop w t room =
     (later : ℕ) → (w' t' : ℕ) → values (thirtyBefore w' t') ≡ w ∷ t ∷ []
-    → unless (not (eqb cop 0)) 16 (unless (hasCandidate f sat cop w' t' room) 10 later) ≡ numberOf why
+    → unless (not (eqb cop 0)) 16 (unless (hasCandidate f sat cop w' t' room) 10 later) ≡ refusalNumber why
 
 -- STORE 11.8: beside 0 the total
 abbrev pub taggedAnswer : Tagged → Answer
 taggedAnswer (Taken n) = done (n ∷ [])
-taggedAnswer (NotTaken why) = refused (numberOf why)
+taggedAnswer (NotTaken why) = refused (refusalNumber why)
 
 -- what a tag of length l answers and leaves, once its candidate's record is known
 abbrev pub acceptedAnswer : Family → List ℕ → List ℕ → Bool → ℕ → List ℕ → Answer

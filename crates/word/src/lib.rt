@@ -4,7 +4,7 @@ ghost use mathlib.Core.Bool.{cond};
 ghost use Prim.Native.Nat.{ℕ, _-_, _≤_, _<_};
 ghost use lib.ListN.{length, set};
 ghost use Rattle.paper.specs.Record.{CED, Timing as TIMING, familyIf, satelliteAt, agesAt, size, withCount};
-ghost use Rattle.paper.specs.Word.{wordBytes, typeOf, owns, owned, InBounds, taken, written, fedRecord};
+ghost use Rattle.paper.specs.Word.{wordBytes, typeOf, owns, owned, InBounds, takeover, written, fedRecord};
 ghost use Rattle.word.specs.Part.{ownedOf};
 ghost use Rattle.word.specs.Holder.{heldAnother};
 use records::AGES_AT;
@@ -108,7 +108,7 @@ fn take(bytes: &mut [u8], sat: u8) -> bool
 
 fn take_over_ced(bytes: &mut [u8], sat: u8)
     requires { ⌜ length (now bytes) ≡ size CED ⌝ }
-    ensures { λ _. ⌜ now (bytes .exit) ≡ taken CED sat (now (bytes .entry)) ⌝ }
+    ensures { λ _. ⌜ now (bytes .exit) ≡ takeover CED sat (now (bytes .entry)) ⌝ }
 {
     if !take(bytes, sat) {
         return;
@@ -118,7 +118,7 @@ fn take_over_ced(bytes: &mut [u8], sat: u8)
 
 fn take_over_timing(bytes: &mut [u8], sat: u8)
     requires { ⌜ length (now bytes) ≡ size TIMING ⌝ }
-    ensures { λ _. ⌜ now (bytes .exit) ≡ taken TIMING sat (now (bytes .entry)) ⌝ }
+    ensures { λ _. ⌜ now (bytes .exit) ≡ takeover TIMING sat (now (bytes .entry)) ⌝ }
 {
     if !take(bytes, sat) {
         return;

@@ -3,14 +3,14 @@ use native.Mathlib.Omega.{arith}
 use mathlib.Core.Path.{_≡_, refl, sym, ap, _∙_}
 use Prim.Native.Nat.{ℕ, _+_, _-_, _%_, _≤_, _<_}
 use lib.ListN.{length, getD, drop}
-use Rattle.adler.specs.Adler.{base, adlerOf, adlerFrom}
-use Rattle.adler.proofs.Sums.{sum-turn, sum-done}
+use Rattle.adler.specs.Adler.{adlerPrime, adlerOf, adlerFrom}
+use Rattle.adler.proofs.Sums.{sum-turn, adler-done}
 use Rattle.adler.proofs.adler32.Statement.{statement}
 use Rattle.adler.proofs.adler32.Tie as tie
 
 abbrev Inv-loop : tie.InvT-loop
 Inv-loop bytes s1₀ s2₀ i₀ s1 s2 i =
-    (i ≤ length bytes) × ((s1 < base) × ((s2 < base) × (adlerOf bytes ≡ adlerFrom s1 s2 (drop i bytes))))
+    (i ≤ length bytes) × ((s1 < adlerPrime) × ((s2 < adlerPrime) × (adlerOf bytes ≡ adlerFrom s1 s2 (drop i bytes))))
 
 abbrev μ-loop : tie.MeasureT-loop
 μ-loop bytes s1₀ s2₀ i₀ s1 s2 i = length bytes - i
@@ -45,7 +45,7 @@ loop-less c = omega arith
 loop-again : tie.Need-loop-again Inv-loop μ-loop
 loop-again c =
     let h = c .before .before .before .before .before .loop in
-    let x = ap (λ (y : ℕ). (h .s1 + y) % base) (c .before .before .as-u32 .ensures .0) in (
+    let x = ap (λ (y : ℕ). (h .s1 + y) % adlerPrime) (c .before .before .as-u32 .ensures .0) in (
       omega arith,
       (
         omega arith,
@@ -66,7 +66,7 @@ add-result c = omega arith
 returns : tie.Need-returns Inv-loop μ-loop
 returns c =
     let h = c .before .loop in
-    sym (h .inv .1 .1 .1 ∙ sum-done _ (h .i) (h .s1) (h .s2) (c .loop-test .left))
+    sym (h .inv .1 .1 .1 ∙ adler-done _ (h .i) (h .s1) (h .s2) (c .loop-test .left))
 
 pub adler32-spec : {M : Type 1} → statement M
 adler32-spec =

@@ -11,7 +11,7 @@ use Rattle.paper.specs.Satellite.{isSatellite}
 use Rattle.paper.specs.Store.{isStore}
 use Rattle.paper.specs.Answer.{askNumber, askAnswer}
 use Rattle.paper.proofs.StoreFacts.{store-facts}
-use Rattle.gst.proofs.Told.{refuses}
+use Rattle.gst.proofs.Told.{refuses-time}
 use Rattle.gst.specs.Answer.{timeAnswer}
 use Rattle.ask.specs.Answered.{askPlace}
 use Rattle.ask.proofs.Enough.{ask-none, ask-unknown, ask-late, ask-told, told-inside}
@@ -102,7 +102,7 @@ returns-5 c =
     let args = test .before .before .before .before .before .args in
     ask-late (familyIf (args .timing)) (args .svn .0) (args .room .now) _ _ (sym (place .answering-at .ensures) ∙ told .row .given .1)
     (a-store (test .before .before)) (a-satellite test) (sym (known .if3 .left) ∙ known .before .age-unknown .ensures)
-    _ (time .ensures) (refuses (time .result) (c .match2 .keys2))
+    _ (time .ensures) (refuses-time (time .result) (c .match2 .keys2))
 
 add-read16 : tie.Need-add-read16
 add-read16 c = omega (arith, inside (c .before .before .before .before .before .before .before) .1)

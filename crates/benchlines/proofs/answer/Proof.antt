@@ -1,7 +1,7 @@
 -- `answer`: the answer's line, with the slice that is still there after the call.
 use native.Mathlib.Omega.{arith}
 use mathlib.Core.Path.{_≡_, refl, ap, _∙_}
-use Rattle.benchlines.specs.Records.{recordPart, recordLine}
+use Rattle.benchlines.specs.Items.{wholeData, wholeLine}
 use Rattle.benchlines.proofs.Parts.{part-short, part-after}
 use borrow.Author.Needs.{needs}
 use Rattle.benchlines.proofs.answer.Statement.{statement}
@@ -26,11 +26,11 @@ same-length-2 : tie.Need-same-length-2
 same-length-2 c = search needs
 
 returns : tie.Need-returns
-unfolding recordLine
+unfolding wholeLine
 returns c =
     let outcome = c .before .before .before .before .before .before .before .before .before .outcome .ensures in
     let a = c .before .before .before .before .before .before .before .before .before .before .before .before .before .before .args in
-    let part = c .before .before .before .part .ensures ∙ ap (recordPart (a .kind) (a .body .now)) (outcome .1) ∙ part-after (a .kind) (a .body .now) (a .room .now) in
+    let part = c .before .before .before .part .ensures ∙ ap (wholeData (a .kind) (a .body .now)) (outcome .1) ∙ part-after (a .kind) (a .body .now) (a .room .now) in
     let line = simp (c .before .before .before .before .before .satellite .ensures, outcome .0, part) at (c .before .before .put-line .ensures) in
     (outcome .1, (line .0, line .1))
 

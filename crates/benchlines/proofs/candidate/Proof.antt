@@ -2,7 +2,7 @@
 use native.Mathlib.Omega.{arith}
 use mathlib.Core.Path.{_∙_}
 use lib.ListN.{getD}
-use Rattle.benchlines.specs.Records.{candidateOn}
+use Rattle.benchlines.specs.Items.{candidateOn}
 use Rattle.benchlines.proofs.Parts.{candidate-short}
 use borrow.Author.Needs.{needs}
 use Rattle.benchlines.proofs.candidate.Statement.{statement}

@@ -1,7 +1,7 @@
 -- `part`: an ask's data; other calls hand out none.
 use mathlib.Core.Path.{refl, _∙_}
 use Rattle.paper.specs.Call.{partTo}
-use Rattle.benchlines.specs.Records.{wordCall, tagCallOn}
+use Rattle.benchlines.specs.Items.{wordCall, tagCallOn}
 use borrow.Author.Needs.{needs}
 use Rattle.benchlines.proofs.part.Statement.{statement}
 use Rattle.benchlines.proofs.part.Tie as tie

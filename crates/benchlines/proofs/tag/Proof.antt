@@ -3,7 +3,7 @@ use native.Mathlib.Omega.{arith}
 use mathlib.Core.Path.{sym, _∙_}
 use lib.Seq.{length-take-le}
 use Rattle.paper.specs.Call.{answerTo, roomAfter}
-use Rattle.benchlines.specs.Records.{tagCallOn}
+use Rattle.benchlines.specs.Items.{tagCallOn}
 use borrow.Author.Needs.{needs}
 use Rattle.benchlines.proofs.tag.Statement.{statement}
 use Rattle.benchlines.proofs.tag.Tie as tie

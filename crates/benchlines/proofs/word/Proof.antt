@@ -1,7 +1,7 @@
 -- `word`: the call is that of the item, whose week and time are numbers of two and four bytes.
 use mathlib.Core.Path.{_∙_}
 use Rattle.paper.specs.Call.{answerTo, roomAfter}
-use Rattle.benchlines.specs.Records.{wordCall}
+use Rattle.benchlines.specs.Items.{wordCall}
 use borrow.Author.Needs.{needs}
 use Rattle.benchlines.proofs.word.Statement.{statement}
 use Rattle.benchlines.proofs.word.Tie as tie

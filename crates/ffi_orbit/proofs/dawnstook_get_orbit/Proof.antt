@@ -3,7 +3,7 @@ use mathlib.Core.Path.{ap, _∙_}
 use Rattle.paper.specs.Record.{CED}
 use Rattle.orbit.specs.Numbers.{orbitFrom}
 use Rattle.orbit.proofs.Places.{placed-there}
-use Rattle.ffi_orbit.specs.Handed.{headOf}
+use Rattle.ffi_orbit.specs.Handed.{headHanded}
 use borrow.Author.Needs.{needs}
 use Rattle.ffi_orbit.proofs.dawnstook_get_orbit.Statement.{statement}
 use Rattle.ffi_orbit.proofs.dawnstook_get_orbit.Tie as tie
@@ -31,7 +31,7 @@ returns c =
     let p = head .before in
     let a = p .before .before .args in
     let there = placed-there CED (a .sat) (a .room .now) (p .place .result) (p .place .ensures .0) (p .place .ensures .1) .1 in
-    let h = head .head-of .ensures ∙ ap headOf (p .place .ensures .0) in
+    let h = head .head-of .ensures ∙ ap headHanded (p .place .ensures .0) in
     let o = read .orbit-of .ensures ∙ ap orbitFrom (part .part-placed .ensures ∙ there) in
     λ i.
     record {

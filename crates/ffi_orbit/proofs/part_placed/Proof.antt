@@ -2,7 +2,7 @@
 use mathlib.Core.Path.{sym, ap, subst, _∙_}
 use lib.ListN.{length}
 use Rattle.paper.specs.Record.{familyIf}
-use Rattle.orbit.specs.Got.{Within, partPlaced}
+use Rattle.orbit.specs.Got.{PlacedWithin, partPlaced}
 use borrow.Author.Needs.{needs}
 use Rattle.ffi_orbit.proofs.part_placed.Statement.{statement}
 use Rattle.ffi_orbit.proofs.part_placed.Tie as tie
@@ -13,7 +13,7 @@ enum-known-placed c = search needs
 data-of-requires : tie.Need-data-of-requires
 data-of-requires c κs =
     let a = c .before .before .before .before in
-    subst (λ p. Within (familyIf (a .args .timing)) p (length (a .args .room .now))) (c .before .placed .given .1) (a .pre)
+    subst (λ p. PlacedWithin (familyIf (a .args .timing)) p (length (a .args .room .now))) (c .before .placed .given .1) (a .pre)
 
 enum-told : tie.Need-enum-told
 enum-told c = search needs

@@ -1,6 +1,6 @@
 -- `five_bytes`: five bytes side by side are 40 bits.
 use native.Mathlib.Omega.{arith}
-use Rattle.fields.proofs.Shifts.{five}
+use Rattle.fields.proofs.Shifts.{forty-bits}
 use borrow.Author.Needs.{needs}
 use Rattle.fields.proofs.five_bytes.Statement.{statement}
 use Rattle.fields.proofs.five_bytes.Tie as tie
@@ -64,7 +64,7 @@ returns c =
     let g = f .before in
     let known = g .before in
     let a = known .before .args in
-    let is = five (a .s .now) (λ i. known .shared-slice-known .given i .fits) (a .j) (g .byte-or-zero .result) (f .byte-or-zero2 .result) (e .byte-or-zero3 .result) in (
+    let is = forty-bits (a .s .now) (λ i. known .shared-slice-known .given i .fits) (a .j) (g .byte-or-zero .result) (f .byte-or-zero2 .result) (e .byte-or-zero3 .result) in (
       is (d .byte-or-zero4 .result) (c .byte-or-zero5 .result) (g .byte-or-zero .ensures .0) (f .byte-or-zero2 .ensures .0) (e .byte-or-zero3 .ensures .0)
           (d .byte-or-zero4 .ensures .0) (c .byte-or-zero5 .ensures .0),
       omega arith,

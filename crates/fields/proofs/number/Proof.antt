@@ -1,7 +1,7 @@
 -- `number`: the shift and the remainder cut the bits out of the five bytes.
 use native.Mathlib.Omega.{arith}
 use Rattle.paper.proofs.Fields.{bits-small}
-use Rattle.fields.proofs.Shifts.{one-shl-pos, inside}
+use Rattle.fields.proofs.Shifts.{one-shl-64-pos, inside}
 use borrow.Author.Needs.{needs}
 use Rattle.fields.proofs.number.Statement.{statement}
 use Rattle.fields.proofs.number.Tie as tie
@@ -22,7 +22,7 @@ shl-result : tie.Need-shl-result
 shl-result c = search needs
 
 rem-result : tie.Need-rem-result
-rem-result c = one-shl-pos (c .before .before .args .w) (omega arith)
+rem-result c = one-shl-64-pos (c .before .before .args .w) (omega arith)
 
 returns : tie.Need-returns
 returns c =

@@ -7,7 +7,7 @@ use mir.Val.{toZ}
 use mir.Facts.{toZ-ofZ, toZ-pos}
 use Rattle.paper.specs.Field.{signed as twos, valueOf}
 use Rattle.signs.proofs.MinusOne.{minus-one, minus-one-fits}
-use Rattle.fields.proofs.Shifts.{turned, low-fits, low-is, sum-fits, some, rest, turned-fits, high-is}
+use Rattle.fields.proofs.Shifts.{turned, low-half-fits, low-is, sum-fits, some, rest, turned-fits, high-is}
 use borrow.Author.Needs.{needs}
 use Rattle.fields.proofs.signed.Statement.{statement}
 use Rattle.fields.proofs.signed.Tie as tie
@@ -25,13 +25,13 @@ cast-result : tie.Need-cast-result
 cast-result c =
     let n = c .before .number in
     let k = c .before .before .before in
-    omega (arith, low-fits (k .args .w) (n .result) (k .pre .1) (k .pre .2) (n .ensures .1) (c .if1 .taken))
+    omega (arith, low-half-fits (k .args .w) (n .result) (k .pre .1) (k .pre .2) (n .ensures .1) (c .if1 .taken))
 
 returns : tie.Need-returns
 returns c =
     let n = c .before .number in
     let k = c .before .before .before in
-    let l = low-fits (k .args .w) (n .result) (k .pre .1) (k .pre .2) (n .ensures .1) (c .if1 .taken) in
+    let l = low-half-fits (k .args .w) (n .result) (k .pre .1) (k .pre .2) (n .ensures .1) (c .if1 .taken) in
     toZ-pos w32 (omega (arith, l))
     ∙ low-is (k .args .w) (n .result) (k .pre .1) (k .pre .2) (n .ensures .1) (c .if1 .taken)
     ∙ ap (valueOf twos (k .args .w)) (n .ensures .0)

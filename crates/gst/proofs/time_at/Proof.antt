@@ -1,7 +1,7 @@
 -- `time_at`: the week and the time of week are the quotient and the remainder, and the test of the week is the paper's.
 use borrow.Author.Needs.{needs}
 use borrow.Author.Tests.{le-leb, lt-leb}
-use Rattle.paper.specs.Time.{timeAt}
+use Rattle.paper.specs.Time.{timeOfSeconds}
 use Rattle.gst.proofs.time_at.Statement.{statement}
 use Rattle.gst.proofs.time_at.Tie as tie
 
@@ -12,7 +12,7 @@ div-week : tie.Need-div-week
 div-week c = search needs
 
 returns : tie.Need-returns
-unfolding timeAt
+unfolding timeOfSeconds
 returns c = simp (lt-leb _ _ (c .if1 .taken))
 
 cast-t5 : tie.Need-cast-t5
@@ -28,7 +28,7 @@ cast-t8 : tie.Need-cast-t8
 cast-t8 c = search needs
 
 returns-2 : tie.Need-returns-2
-unfolding timeAt
+unfolding timeOfSeconds
 returns-2 c = simp (le-leb _ _ (c .if1 .left))
 
 pub time-at-spec : {M : Type 1} → statement M

@@ -6,7 +6,7 @@ use Prim.Native.Nat.{ℕ, _-_, _≤_}
 use lib.ListN.{length, replicate, length-set, length-replicate}
 use Rattle.text.specs.Text.{Put, putText}
 use Rattle.text.proofs.Puts.{putText-none, put-then}
-use Rattle.lines.specs.Kinds.{longestRecord}
+use Rattle.lines.specs.Kinds.{longestItem}
 use Rattle.intake.proofs.State.{cleared-turn, kept-then}
 use borrow.Author.Needs.{needs}
 use Rattle.intake.proofs.keep.Statement.{statement}
@@ -14,10 +14,10 @@ use Rattle.intake.proofs.keep.Tie as tie
 
 abbrev Inv-loop : tie.InvT-loop
 Inv-loop reader₀ have end number i₀ reader i =
-    (i ≤ longestRecord) × ((length reader ≡ length reader₀) × (reader ≡ putText reader₀ have (replicate (i - have) 0)))
+    (i ≤ longestItem) × ((length reader ≡ length reader₀) × (reader ≡ putText reader₀ have (replicate (i - have) 0)))
 
 abbrev μ-loop : tie.MeasureT-loop
-μ-loop reader₀ have end number i₀ reader i = longestRecord - i
+μ-loop reader₀ have end number i₀ reader i = longestItem - i
 
 loop-holds : tie.Need-loop-holds Inv-loop μ-loop
 loop-holds c =
@@ -66,9 +66,9 @@ returns c =
     let h = test .before .loop in
     let start = test .before .before .before in
     let a = start .args in
-    let all : h .i ≡ longestRecord = omega (arith, test .loop-test .left, h .inv .0) in
-    let size = length-replicate {A = ℕ} (longestRecord - a .have) 0 in
-    let zeros : Put (a .reader .now) (a .have) (replicate (longestRecord - a .have) 0) (h .reader) longestRecord =
+    let all : h .i ≡ longestItem = omega (arith, test .loop-test .left, h .inv .0) in
+    let size = length-replicate {A = ℕ} (longestItem - a .have) 0 in
+    let zeros : Put (a .reader .now) (a .have) (replicate (longestItem - a .have) 0) (h .reader) longestItem =
     record { bytes = rw all at (h .inv .1 .1); place = omega (arith, size, start .pre .1); fits = omega (arith, size, start .pre .0, start .pre .1) } in
     put-then zeros (c .before .before .put-bytes .ensures) .bytes
     ∙ kept-then (a .reader .now) (a .have) (a .end) (a .number) (start .pre .0) (start .pre .1)

@@ -63,20 +63,20 @@ returns-2 c =
     let same = take-set-le (a .have) (a .kept .now) (a .have) (a .byte) (omega arith) in
     (rw same (step whole (start .pre .1) short), record { size = long; within = within-still (a .kept .now) (a .have) (a .byte) (start .pre .0 .within) })
 
-sub-put-record : tie.Need-sub-put-record
-sub-put-record c = search needs
+sub-put-item : tie.Need-sub-put-item
+sub-put-item c = search needs
 
-part-put-record-start : tie.Need-part-put-record-start
-part-put-record-start c = search needs
+part-put-item-start : tie.Need-part-put-item-start
+part-put-item-start c = search needs
 
-part-put-record-end : tie.Need-part-put-record-end
-part-put-record-end c =
+part-put-item-end : tie.Need-part-put-item-end
+part-put-item-end c =
     let start = c .before .before .before .before .before .before .before .before .before .before .before in
     let a = start .args in
     simp length-set (omega (arith, notWhole-within (a .kept .now) (a .have) (start .pre .0)))
 
-put-record-requires : tie.Need-put-record-requires
-put-record-requires c κs =
+put-item-requires : tie.Need-put-item-requires
+put-item-requires c κs =
     let kind = c .before .before .before .before .before .before .before .before in
     let start = kind .before .before .before .before .before in
     let a = start .args in
@@ -110,7 +110,7 @@ returns-3 c =
     let whole = rw (test .before .before .before .body .ensures) at (test .before .before .if1 .left) in
     let long = rw (test .before .most .ensures) at (test .if2 .left) in
     let size = length-set (a .kept .now) (a .have) (a .byte) ∙ start .pre .0 .size in
-    let put = lines .put-record .ensures in
+    let put = lines .put-item .ensures in
     (step _ _ _ _ whole (start .pre .1) long (c .ends .ensures) (put .0) (put .1), record { size = size; within = omega arith })
 
 pub take-byte-spec : {M : Type 1} → statement M
@@ -128,10 +128,10 @@ take-byte-spec =
     most-requires
     same-length-2
     returns-2
-    sub-put-record
-    part-put-record-start
-    part-put-record-end
-    put-record-requires
+    sub-put-item
+    part-put-item-start
+    part-put-item-end
+    put-item-requires
     ends-requires
     same-length-3
     same-length-4

@@ -3,7 +3,7 @@ use native.Mathlib.Omega.{arith}
 use mathlib.Core.Path.{_≡_, refl, _∙_}
 use Prim.Native.Nat.{_+_, _-_, _≤_}
 use lib.ListN.{length, take}
-use Rattle.benchlines.specs.Records.{unknownKind}
+use Rattle.benchlines.specs.Items.{unknownKind}
 use Rattle.intake.specs.Input.{going}
 use Rattle.intake.specs.Reader.{NotWhole}
 use Rattle.intake.proofs.Parts.{PartSofar, part-begun, byte-more, stops-full, stops-done, stops-ended}

@@ -7,12 +7,12 @@ use Rattle.paper.specs.Parts.{firstFrom}
 use Rattle.paper.specs.Record.{familyIf}
 use Rattle.paper.specs.Tag.{firstSlot}
 use Rattle.paper.proofs.First.{first-on}
-use Rattle.lookup.proofs.Search.{isOf, found-here, found-none, satellite-at, record-starts}
+use Rattle.lookup.proofs.Search.{isOfSatellite, found-here, found-none, satellite-at, record-starts}
 use Rattle.lookup.proofs.slot_of.Statement.{statement}
 use Rattle.lookup.proofs.slot_of.Tie as tie
 
 abbrev Inv-loop : tie.InvT-loop
-Inv-loop row n timing sat slot₀ slot = (slot ≤ n) × (firstSlot (familyIf timing) sat n row ≡ firstFrom (isOf (familyIf timing) sat row) (n - slot) slot)
+Inv-loop row n timing sat slot₀ slot = (slot ≤ n) × (firstSlot (familyIf timing) sat n row ≡ firstFrom (isOfSatellite (familyIf timing) sat row) (n - slot) slot)
 
 abbrev μ-loop : tie.MeasureT-loop
 μ-loop row n timing sat slot₀ slot = n - slot

@@ -1,7 +1,7 @@
 -- `tag` acts only where its candidate has a place; what it then leaves is the paper's, since the record there is the candidate's.
 use Rattle.paper.specs.Tag.{familyOf}
 use Rattle.tags.proofs.Shown.{placed-range, placed-inside}
-use Rattle.navmessage.proofs.Tagging.{tag-refused, tag-accepted}
+use Rattle.navmessage.proofs.Tagging.{tag-refused, tag-at-candidate}
 use borrow.Author.Needs.{needs}
 use Rattle.navmessage.proofs.tag.Statement.{statement}
 use Rattle.navmessage.proofs.tag.Tie as tie
@@ -47,7 +47,7 @@ returns c =
     let known = found .before .before in
     let allowed = known .before in
     let a = allowed .before .before .before .args in
-    tag-accepted _ _ (a .svn .0) (a .kind) (a .cop) (a .bits) (a .status) (a .mack .wn .0) (a .mack .tow .0) (a .given .now) (a .verdict)
+    tag-at-candidate _ _ (a .svn .0) (a .kind) (a .cop) (a .bits) (a .status) (a .mack .wn .0) (a .mack .tow .0) (a .given .now) (a .verdict)
     (a .room .now) (allowed .tag-allowed .ensures) (known .tag-known .ensures) _ (found .candidate-of .ensures) _ _ _ (at .at .given .1)
     (done .accept .ensures .0) (done .accept .ensures .1)
 

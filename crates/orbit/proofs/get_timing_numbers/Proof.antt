@@ -5,7 +5,7 @@ use Rattle.paper.specs.Orbit.{numbersTests}
 use Rattle.ask.specs.Answered.{answeredAnswer, placeAnswered}
 use Rattle.ask.proofs.Tells.{answer-there}
 use Rattle.orbit.specs.Numbers.{timingFrom}
-use Rattle.orbit.proofs.Places.{passes, refuses, no-numbers, numbers-there}
+use Rattle.orbit.proofs.Places.{passes, refuses-numbers, no-numbers, numbers-there}
 use borrow.Author.Needs.{needs}
 use Rattle.orbit.proofs.get_timing_numbers.Statement.{statement}
 use Rattle.orbit.proofs.get_timing_numbers.Tie as tie
@@ -46,7 +46,7 @@ returns-2 : tie.Need-returns-2
 returns-2 c =
     let asked = c .before .before .before in
     let a = asked .before .before .args in
-    let e = refuses Timing (a .svn .0) (a .room .now) _ (ap answeredAnswer (sym (c .before .why .given .1)) ∙ asked .ask .ensures .0) .0 in
+    let e = refuses-numbers Timing (a .svn .0) (a .room .now) _ (ap answeredAnswer (sym (c .before .why .given .1)) ∙ asked .ask .ensures .0) .0 in
     (e, ap timingFrom (no-numbers Timing (a .svn .0) (a .room .now) _ e))
 
 pub get-timing-numbers-spec : {M : Type 1} → statement M

@@ -5,7 +5,7 @@ use Rattle.paper.specs.Record.{familyIf}
 use Rattle.paper.specs.Answer.{askData}
 use Rattle.paper.specs.Orbit.{numbersTests}
 use Rattle.ask.specs.Answered.{answeredAnswer, placeAnswered}
-use Rattle.orbit.proofs.Places.{tests-21, tests-22, tests-0, passes, refuses, ced-inside, ced-passes, ced-fails}
+use Rattle.orbit.proofs.Places.{tests-21, tests-22, tests-0, passes, refuses-numbers, ced-inside, ced-passes, ced-fails}
 use borrow.Author.Needs.{needs}
 use Rattle.orbit.proofs.place.Statement.{statement}
 use Rattle.orbit.proofs.place.Tie as tie
@@ -93,7 +93,7 @@ returns-5 : tie.Need-returns-5
 returns-5 c =
     let asked = c .before .before .before in
     let a = asked .before .before .args in
-    refuses (familyIf (a .timing)) (a .svn .0) (a .room .now) _ (ap answeredAnswer (sym (c .before .why .given .1)) ∙ asked .ask .ensures .0)
+    refuses-numbers (familyIf (a .timing)) (a .svn .0) (a .room .now) _ (ap answeredAnswer (sym (c .before .why .given .1)) ∙ asked .ask .ensures .0)
 
 pub place-spec : {M : Type 1} → statement M
 place-spec =

@@ -3,7 +3,7 @@ use native.Mathlib.Omega.{arith}
 use Prim.Native.Nat.{_-_, _≤_}
 use mathlib.Core.Path.{_≡_, refl}
 use lib.ListN.{length, take, length-set}
-use Rattle.records.proofs.Ages.{copy-turn, copy-done}
+use Rattle.records.proofs.Ages.{ages-turn, ages-done}
 use Rattle.records.proofs.copy.Statement.{statement}
 use Rattle.records.proofs.copy.Tie as tie
 
@@ -31,13 +31,13 @@ loop-less c = omega arith
 loop-again : tie.Need-loop-again Inv-loop μ-loop
 loop-again c =
     let s = c .before .before .loop in
-    (omega arith, simp length-set (omega arith), copy-turn (s .to) _ (s .i) (omega arith) (omega arith) (s .inv .2))
+    (omega arith, simp length-set (omega arith), ages-turn (s .to) _ (s .i) (omega arith) (omega arith) (s .inv .2))
 
 same-length : tie.Need-same-length Inv-loop μ-loop
 same-length c = omega arith
 
 returns : tie.Need-returns Inv-loop μ-loop
-returns c = let s = c .before .loop in copy-done (s .to) _ (s .i) (omega arith) (omega arith) (s .inv .2)
+returns c = let s = c .before .loop in ages-done (s .to) _ (s .i) (omega arith) (omega arith) (s .inv .2)
 
 pub copy-spec : {M : Type 1} → statement M
 copy-spec =

@@ -3,7 +3,7 @@ use mathlib.Core.Path.{_∙_}
 use native.Mathlib.Omega.{arith}
 use lib.ListN.{length-set}
 use Rattle.paper.proofs.WordViews.{nextRow-lt}
-use Rattle.ring.proofs.Turn.{Next, next-fits, copy-fits, advanced-by}
+use Rattle.ring.proofs.Turn.{NextRowAt, next-fits, copy-fits, advanced-by}
 use borrow.Author.Needs.{needs}
 use Rattle.ring.proofs.advance.Statement.{statement}
 use Rattle.ring.proofs.advance.Tie as tie
@@ -35,7 +35,7 @@ rows : (c : tie.After-row-start2)
     let d = next .before in
     let row = d .before .before in
     let n = row .before .before in
-    Next (n .before .before .before .args .room .now) (d .depth .result) (n .slots .result) (row .current .result) (next .next-row .result)
+    NextRowAt (n .before .before .before .args .room .now) (d .depth .result) (n .slots .result) (row .current .result) (next .next-row .result)
     (c .row-start2 .result) (to .row-start .result)
 rows c =
     let to = c .before .before in

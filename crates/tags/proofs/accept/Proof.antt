@@ -8,7 +8,7 @@ use Rattle.paper.specs.Number.{done}
 use Rattle.paper.specs.Parts.{part}
 use Rattle.paper.specs.Record.{familyIf, size}
 use Rattle.paper.specs.Tag.{givenAgrees, statusAdds, tagged, takenBy}
-use Rattle.tags.proofs.Accepts.{agreed, same-room, same-total, number-11, number-17, number-18, number-0}
+use Rattle.tags.proofs.Accepts.{agreed, same-tagged-room, same-total, number-11, number-17, number-18, number-0}
 use borrow.Author.Needs.{needs}
 use Rattle.tags.proofs.accept.Statement.{statement}
 use Rattle.tags.proofs.accept.Tie as tie
@@ -92,7 +92,7 @@ returns-4 c =
     (givenAgrees f (a .given .now) rec) (a .verdict) (statusAdds (a .status)) (agrees test) (not-false _ (yes .if2 .left))
     (sym (adds .before .status-adds .ensures) ∙ not-false _ (adds .if3 .left)) in (
       ap (λ (x : ℕ). done (x ∷ [])) (credit .ensures .1 ∙ same-total f (a .given .now) rec (a .bits) (a .room .now) (a .sat) same (start .pre .1 .1)) ∙ zero .0,
-      credit .ensures .0 ∙ same-room f (a .given .now) rec (a .bits) (a .room .now) (a .sat) same (start .pre .1 .1) ∙ zero .1,
+      credit .ensures .0 ∙ same-tagged-room f (a .given .now) rec (a .bits) (a .room .now) (a .sat) same (start .pre .1 .1) ∙ zero .1,
     )
 
 pub accept-spec : {M : Type 1} → statement M

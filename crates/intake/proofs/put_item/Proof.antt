@@ -1,11 +1,11 @@
--- `put_record`: the record's line, and behind it what `trace` adds.
+-- `put_item`: the record's line, and behind it what `trace` adds.
 use native.Mathlib.Omega.{arith}
 use Rattle.text.proofs.Puts.{put-then, put-none}
 use Rattle.intake.specs.Input.{linesFor}
 use Rattle.intake.proofs.Taken.{line-fits}
 use borrow.Author.Needs.{needs}
-use Rattle.intake.proofs.put_record.Statement.{statement}
-use Rattle.intake.proofs.put_record.Tie as tie
+use Rattle.intake.proofs.put_item.Statement.{statement}
+use Rattle.intake.proofs.put_item.Tie as tie
 
 answer-requires : tie.Need-answer-requires
 answer-requires c κs =
@@ -43,8 +43,8 @@ returns-2 c =
     let a = c .before .before .before .before .before .answer .ensures in
     (a .0, rw (c .if1 .left) (put-then (a .1 .0) (put-none _ _ (omega arith))))
 
-pub put-record-spec : {M : Type 1} → statement M
-put-record-spec =
+pub put-item-spec : {M : Type 1} → statement M
+put-item-spec =
     tie.close
     (tie.spec
     answer-requires

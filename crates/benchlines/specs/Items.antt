@@ -69,15 +69,15 @@ partOn (says k) room = []
 abbrev pub callsOf : Kind → List ℕ → List ℕ → List Call
 callsOf kind body room = callsIn (deedOf kind body room)
 
-abbrev pub recordAnswer : Kind → List ℕ → List ℕ → Answer
-recordAnswer kind body room = answerOn (deedOf kind body room) room
+abbrev pub wholeAnswer : Kind → List ℕ → List ℕ → Answer
+wholeAnswer kind body room = answerOn (deedOf kind body room) room
 
-abbrev pub recordPart : Kind → List ℕ → List ℕ → List ℕ
-recordPart kind body room = partOn (deedOf kind body room) room
+abbrev pub wholeData : Kind → List ℕ → List ℕ → List ℕ
+wholeData kind body room = partOn (deedOf kind body room) room
 
-abbrev pub recordRoom : Kind → List ℕ → List ℕ → List ℕ
-recordRoom kind body room = run room (callsOf kind body room)
+abbrev pub wholeRoom : Kind → List ℕ → List ℕ → List ℕ
+wholeRoom kind body room = run room (callsOf kind body room)
 
 -- the satellite is the first byte of a body that has one
-unfoldable pub recordLine : Kind → List ℕ → List ℕ → List ℕ
-recordLine kind body room = lineOf kind (getD body 0 0) (recordAnswer kind body room) (recordPart kind body room)
+unfoldable pub wholeLine : Kind → List ℕ → List ℕ → List ℕ
+wholeLine kind body room = lineOf kind (getD body 0 0) (wholeAnswer kind body room) (wholeData kind body room)
