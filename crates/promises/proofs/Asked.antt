@@ -26,7 +26,7 @@ use Rattle.orbit.proofs.Places.{as-asked}
 use Rattle.promises.specs.Outcomes.{HandedOut, cedAsking, timingAsking, cCedAsking, cTimingAsking, askedBy}
 use Rattle.promises.specs.Outcomes.{orbitAsking, cOrbitAsking, orbitBy, numbersAsking, cNumbersAsking, numbersBy}
 use Rattle.promises.specs.Covered.{Covered, tagsOf}
-use Rattle.promises.specs.Statements.{Answered, EarnedBy, AskedOfTheCode, NumbersEarned, OrbitOfTheCode, TimingOfTheCode}
+use Rattle.promises.specs.Statements.{AskedOn, EarnedBy, AskedOfTheCode, NumbersEarned, OrbitOfTheCode, TimingOfTheCode}
 use Rattle.promises.proofs.Ran.{demand-3-of-the-code}
 
 -- ---- asking that is answered 0 on the first k bytes of a room is answered so on the whole
@@ -54,7 +54,7 @@ module _ (f : Family) (sat : ℕ) (room : List ℕ) (k : ℕ) (inside : k ≤ le
 abbrev firstOf : Answer → ℕ
 firstOf a = getD (values a) 0 0
 
-module _ {A : Type 0} (now : List ℕ) (covered : Covered now) (out : HandedOut A) (answered : Answered now out) (bytes : List ℕ)
+module _ {A : Type 0} (now : List ℕ) (covered : Covered now) (out : HandedOut A) (answered : AskedOn now out) (bytes : List ℕ)
     (n : out .number ≡ number (askAnswer (out .family) (out .sat) (out .lent)))
     (c : out .counted ≡ firstOf (askAnswer (out .family) (out .sat) (out .lent)))
     (b : bytes ≡ askData (out .family) (out .sat) (out .lent)) where
@@ -98,7 +98,7 @@ asked-of-the-code now covered (cTimingAsking o) e =
     asked-earned now covered (askedBy (cTimingAsking o)) e (askedBy (cTimingAsking o) .given) (ap (λ x. x .number) q) (ap (λ x. x .authbits) q) (o .permitted .1)
 
 -- ---- numbers are read of what asking hands out
-module _ {A : Type 0} (From : List ℕ → A) (now : List ℕ) (covered : Covered now) (out : HandedOut A) (answered : Answered now out)
+module _ {A : Type 0} (From : List ℕ → A) (now : List ℕ) (covered : Covered now) (out : HandedOut A) (answered : AskedOn now out)
     (n : out .number ≡ number (numbersAnswer (out .family) (out .sat) (out .lent)))
     (c : out .counted ≡ firstOf (numbersAnswer (out .family) (out .sat) (out .lent)))
     (b : out .given ≡ From (numbersData (out .family) (out .sat) (out .lent))) where

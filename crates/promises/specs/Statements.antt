@@ -54,7 +54,7 @@ TimeOfTheCode = (now : List ℕ) (covered : Covered now) → TimeHolds now (word
 
 -- ---- what is handed out
 -- it was asked on the first bytes of the room, and answered 0
-pub record Answered {A : Type 0} (now : List ℕ) (out : HandedOut A) : Type 0 where
+pub record AskedOn {A : Type 0} (now : List ℕ) (out : HandedOut A) : Type 0 where
   pub bytes : ℕ
   pub inside : bytes ≤ length now
   pub lent : out .lent ≡ take bytes now
@@ -69,7 +69,7 @@ EarnedBy {now = now} covered out bytes =
 -- asking: `asked-of-the-code`
 abbrev pub AskedOfTheCode : Type 1
 AskedOfTheCode =
-    (now : List ℕ) (covered : Covered now) (asking : Asking) → Answered now (askedBy asking)
+    (now : List ℕ) (covered : Covered now) (asking : Asking) → AskedOn now (askedBy asking)
     → EarnedBy covered (askedBy asking) (askedBy asking .given)
 
 -- numbers that were handed out are those of some bytes, and the count was earned for exactly these
@@ -81,13 +81,13 @@ pub record NumbersEarned {A : Type 0} (From : List ℕ → A) {now : List ℕ} (
 -- an orbit as numbers: `orbit-of-the-code`
 abbrev pub OrbitOfTheCode : Type 1
 OrbitOfTheCode =
-    (now : List ℕ) (covered : Covered now) (asking : OrbitAsking) → Answered now (orbitBy asking)
+    (now : List ℕ) (covered : Covered now) (asking : OrbitAsking) → AskedOn now (orbitBy asking)
     → NumbersEarned orbitFrom covered (orbitBy asking)
 
 -- timing parameters as numbers: `timing-of-the-code`
 abbrev pub TimingOfTheCode : Type 1
 TimingOfTheCode =
-    (now : List ℕ) (covered : Covered now) (asking : NumbersAsking) → Answered now (numbersBy asking)
+    (now : List ℕ) (covered : Covered now) (asking : NumbersAsking) → AskedOn now (numbersBy asking)
     → NumbersEarned timingFrom covered (numbersBy asking)
 
 -- ---- messages

@@ -13,15 +13,15 @@ use lib.ListN.{length, getD, set, replicate, getD-replicate}
 use lib.Seq.{getD-set-same, getD-set-other}
 use Rattle.paper.specs.Bits.{bitAt, moved}
 use Rattle.paper.specs.Time.{startOf, secondsOf}
-use Rattle.paper.specs.Big.{be16, be32}
 use Rattle.paper.specs.Record.{Family, CED, Timing, size, ages, agesAt, dataAt, dataBytes, satellite, agesOf, dataOf, oldest, older, aged, blankRecord}
 use Rattle.paper.specs.Word.{Owned, nothing, owns, InBounds, typeOf, takeover, written, fedRecord}
-use Rattle.paper.specs.Room.{headSize, week, time, marked}
+use Rattle.paper.specs.Room.{markAt, week, time, marked}
 use Rattle.paper.proofs.Bits.{moved-before, moved-after, moved-inside}
 use Rattle.paper.proofs.Parts.{length-part}
 use Rattle.paper.proofs.Lengths.{keeps-takeover}
 use Rattle.paper.proofs.RecordViews.{aged-satellite, aged-ages, aged-data, takeover-satellite, takeover-ages, takeover-data, written-ages, written-data, blank-ages}
 use Rattle.paper.proofs.WordTable.{owned-inBounds}
+use Rattle.stays.proofs.Rows.{SameHead, same-week, same-time}
 use Rattle.history.proofs.Records.{written-same}
 use Rattle.since.specs.Brought.{Fed, Origin, noWord, fedAs, ownedBy, ownsAge, heldBy, StandIn, Holds, ageOf, MadeOf, Dated, AgeSays}
 use Rattle.since.proofs.Shares.{IsShare, owned-share, share-rises}
@@ -49,16 +49,12 @@ made-same k f rec rec' noWord s d a m = a m
 made-same k f rec rec' (fedAs w) s d a m = holds-same k f rec rec' w s d m
 
 -- ---- the same head of a row
-abbrev pub SameHead : List ℕ → List ℕ → Type 0
-SameHead row row' = (j : ℕ) → j < headSize → getD row' j 0 ≡ getD row j 0
-
 module _ (row row' : List ℕ) (h : SameHead row row') where
   pub head-marked : marked row' ≡ marked row
-  head-marked = rw (h 0 (omega arith))
+  head-marked = rw (h markAt (omega arith))
 
   pub head-seconds : secondsOf (week row') (time row') ≡ secondsOf (week row) (time row)
-  unfolding be16 be32
-  head-seconds = rw (h 1 (omega arith), h 2 (omega arith), h 3 (omega arith), h 4 (omega arith), h 5 (omega arith), h 6 (omega arith))
+  head-seconds = rw (same-week row row' h, same-time row row' h)
 
   head-age : (timed : Bool) (age : ℕ) (x : Origin) → AgeIf timed age row x → AgeIf timed age row' x
   head-age false age x a = tt

@@ -25,10 +25,11 @@ use Rattle.paper.proofs.StoreFacts.{both-true, store-facts, store-row, row-fact
 use Rattle.paper.proofs.Views.{length-rowOf, length-record}
 use Rattle.paper.proofs.WordViews.{rowSettled, rowTaken, rowTaken-length, rowTaken-record, markedAt-mark, markedAt-week, markedAt-time, fedRow-head, fed-here, fed-record}
 use Rattle.stays.proofs.Rooms.{feed-allowed, satellite-known}
+use Rattle.stays.proofs.Rows.{SameHead}
 use Rattle.stays.proofs.Stays.{number-answer}
 use Rattle.history.specs.Line.{succeeds}
 use Rattle.since.specs.Brought.{Fed, Origin, noWord, fedAs, ownedBy, ownsAge, heldBy, ageOf, Dated}
-use Rattle.since.proofs.Changes.{AgeIf, Stands, SameHead, head-marked, head-seconds, aged-stands, fed-stands}
+use Rattle.since.proofs.Changes.{AgeIf, Stands, head-marked, head-seconds, aged-stands, fed-stands}
 
 -- under rule 1, or under either
 abbrev pub Ruled : Bool → List ℕ → Type 0
