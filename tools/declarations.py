@@ -5,7 +5,7 @@ crates/paper the order of refusals in the header's comments; and to each other n
 the tree: the numbers and the orders of docs/STORE.md, 14, the numbers of docs/ANSWER.md, the crates of README.md, and the functions, wrong
 answers, crates and counts of docs/PROMISES.md.
 
-usage: declarations.py      in the repository's top folder
+usage: declarations.py [--quiet]      in the repository's top folder; --quiet: says only what differs
 """
 import glob
 import re
@@ -357,7 +357,7 @@ class Held:
             self.same(f"{what}: how often {name} stands there", found.count(name), expected.count(name))
 
     def done(self, before, text):
-        if self.wrong == before:
+        if self.wrong == before and "--quiet" not in sys.argv:
             print("outside: " + text)
 
 
@@ -450,7 +450,7 @@ def numbers_on_pages(held, _):
     before = held.wrong
     every = [0, *numbers_of_code().values()]
     held.members(f"{STORE}, 14.1", [int(row[0]) for row in table_of(STORE, "**14.1 ")], every)
-    of_inputs = said_in(ANSWER, r"^(\d+) and (\d+) are of inputs of records alone")
+    of_inputs = said_in(ANSWER, r"^(\d+) and (\d+) are of inputs alone")
     controller = [int(row[0]) for row in table_of(ANSWER, "What a crane does with a refusal")]
     held.members(f"{ANSWER}, what a crane does and the sentence behind it", controller + of_inputs, every)
     held.done(before, f"{STORE}, 14.1, and {ANSWER} have the {len(every)} numbers")
