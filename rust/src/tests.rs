@@ -27,7 +27,7 @@ fn only_zero_is_success() {
         }
     }
     assert_eq!(Refusal::check(19), Err(Refusal::Unlisted(19)));
-    assert_eq!(Refusal::Unlisted(19).to_string(), "answer 19 is not one of version 0.6.0");
+    assert_eq!(Refusal::Unlisted(19).to_string(), "answer 19 is not one of version 0.7.0");
 }
 
 type OrbitNumbers = (u8, u16, u16, u32, (Word1, Word2, Word3, Word4, Word5), [u64; 23]);
