@@ -6,10 +6,10 @@ use contract.Lifetimes.{Lfts}
 use native.Mathlib.Omega.{arith}
 use mathlib.Core.Bool.{true}
 use mathlib.Core.List.{List, [], _∷_}
-use mathlib.Core.Path.{_≡_, refl, sym, ap, _∙_}
+use mathlib.Core.Path.{_≡_, refl, ap, _∙_}
 use Prim.Native.Nat.{ℕ, zero, suc, _≤_}
 use lib.ListN.{length, take}
-use Rattle.paper.specs.Number.{Answer, done, number, answer}
+use Rattle.paper.specs.Number.{done, answer}
 use Rattle.paper.specs.Parts.{onPart}
 use Rattle.paper.specs.Record.{dataBytes, sameBits}
 use Rattle.paper.specs.Satellite.{isSatellite}
