@@ -23,6 +23,7 @@ use Rattle.history.proofs.Steps.{ask-step}
 use Rattle.history.proofs.Demand.{asked-behind}
 use Rattle.orbit.specs.Numbers.{orbitFrom, timingFrom}
 use Rattle.orbit.proofs.Places.{as-asked}
+use Rattle.ffi_orbit.specs.Handed.{orbitIn, timingIn}
 use Rattle.promises.specs.Outcomes.{HandedOut, cedAsking, timingAsking, cCedAsking, cTimingAsking, askedBy}
 use Rattle.promises.specs.Outcomes.{orbitAsking, cOrbitAsking, orbitBy, numbersAsking, cNumbersAsking, numbersBy}
 use Rattle.promises.specs.Covered.{Covered, tagsOf}
@@ -121,8 +122,7 @@ orbit-of-the-code now covered (orbitAsking o) e =
     numbers-earned orbitFrom now covered (orbitBy (orbitAsking o)) e (ap number q) (ap firstOf q) (o .permitted .1)
 orbit-of-the-code now covered (cOrbitAsking o) e =
     let p = o .permitted in
-    numbers-earned orbitFrom now covered (orbitBy (cOrbitAsking o)) e (ap (λ x. x .number) p) (ap (λ x. x .authbits) p)
-    (λ i. record { word1 = p i .word1; word2 = p i .word2; word3 = p i .word3; word4 = p i .word4; word5 = p i .word5; scaled = p i .scaled })
+    numbers-earned orbitFrom now covered (orbitBy (cOrbitAsking o)) e (ap (λ x. x .number) p) (ap (λ x. x .authbits) p) (ap orbitIn p)
 
 pub timing-of-the-code : TimingOfTheCode
 timing-of-the-code now covered (numbersAsking o) e =
@@ -130,5 +130,4 @@ timing-of-the-code now covered (numbersAsking o) e =
     numbers-earned timingFrom now covered (numbersBy (numbersAsking o)) e (ap number q) (ap firstOf q) (o .permitted .1)
 timing-of-the-code now covered (cNumbersAsking o) e =
     let p = o .permitted in
-    numbers-earned timingFrom now covered (numbersBy (cNumbersAsking o)) e (ap (λ x. x .number) p) (ap (λ x. x .authbits) p)
-    (λ i. record { word6 = p i .word6; word10 = p i .word10; scaled = p i .scaled })
+    numbers-earned timingFrom now covered (numbersBy (cNumbersAsking o)) e (ap (λ x. x .number) p) (ap (λ x. x .authbits) p) (ap timingIn p)

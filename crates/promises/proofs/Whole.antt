@@ -14,7 +14,7 @@ use Rattle.intake.proofs.Along.{stages, items, rooms, texts, items-ended, stage
 use Rattle.intake.proofs.State.{Proper, none-unfinished, of-proper, stage-back}
 use Rattle.intake.proofs.Taken.{partTaken-most}
 use Rattle.promises.specs.Outcomes.{PartRan, EndRan}
-use Rattle.promises.specs.Inputs.{PartLent, readerLeft, roomLeft, partSaid, EndLent, endSaid, PartRead, Read}
+use Rattle.promises.specs.Inputs.{partBytes, PartLent, readerLeft, roomLeft, partSaid, EndLent, endSaid, PartRead, Read}
 use Rattle.promises.specs.Statements.{ReadInParts, PrintedIsOutput}
 
 -- ---- what a run leaves
@@ -24,7 +24,9 @@ module _ (o : PartRan) (traced : Bool) (reader room bytes : List ℕ) (L : PartL
   heard = take (o .answer .took) bytes
 
   took-most : o .answer .took ≤ length bytes
-  took-most = rw (← (L .bytes-are), o .permitted .0 .count) (partTaken-most _ _ _ _ _ _)
+  took-most =
+      subst (λ (b : List ℕ). o .answer .took ≤ length b) (L .bytes-are)
+      (subst (λ (n : ℕ). n ≤ length (partBytes o)) (sym (o .permitted .0 .count)) (partTaken-most _ _ _ _ _ _))
 
   leaves-reader : readerLeft o ≡ readerOf (stageOf (stageIn reader) heard)
   leaves-reader = rw (← (L .bytes-are), ← (L .reader-is)) (o .permitted .1 .0)

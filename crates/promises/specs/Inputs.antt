@@ -7,12 +7,18 @@ use Prim.Native.Nat.{ℕ}
 use lib.ListN.{take, drop}
 use Rattle.promises.specs.Outcomes.{PartRan, EndRan}
 
--- a run of `part`: on this reader, room and part of an input
-pub record PartLent (o : PartRan) (traced : Bool) (reader room bytes : List ℕ) : Type 0 where
-  pub reader-is : o .arguments .0 .now ≡ reader
-  pub room-is : o .arguments .1 .0 .now ≡ room
-  pub bytes-are : o .arguments .1 .1 .0 .now ≡ bytes
-  pub traced-is : o .arguments .1 .1 .1 .1 .0 ≡ traced
+-- ---- a run of `part`, by the names of its arguments
+abbrev pub partReader : PartRan → List ℕ
+partReader o = let (reader, (room, (bytes, (out, (traced, _))))) = o .arguments in reader .now
+
+abbrev pub partRoom : PartRan → List ℕ
+partRoom o = let (reader, (room, (bytes, (out, (traced, _))))) = o .arguments in room .now
+
+abbrev pub partBytes : PartRan → List ℕ
+partBytes o = let (reader, (room, (bytes, (out, (traced, _))))) = o .arguments in bytes .now
+
+abbrev pub partTraced : PartRan → Bool
+partTraced o = let (reader, (room, (bytes, (out, (traced, _))))) = o .arguments in traced
 
 -- what it left of the reader and of the room, and the lines that it wrote
 abbrev pub readerLeft : PartRan → List ℕ
@@ -24,16 +30,34 @@ roomLeft o = let (reader, (room, (bytes, (out, _)))) = o .exit in room .now
 abbrev pub partSaid : PartRan → List ℕ
 partSaid o = let (reader, (room, (bytes, (out, _)))) = o .exit in take (o .answer .said) (out .now)
 
--- a run of `end` that was taken
-pub record EndLent (o : EndRan) (traced : Bool) (reader room : List ℕ) : Type 0 where
-  pub reader-is : o .arguments .0 .now ≡ reader
-  pub room-is : o .arguments .1 .0 .now ≡ room
-  pub traced-is : o .arguments .1 .1 .1 .0 ≡ traced
-  pub taken : o .answer .taken ≡ true
+-- it was lent this reader, this room and this part of an input
+pub record PartLent (o : PartRan) (traced : Bool) (reader room bytes : List ℕ) : Type 0 where
+  pub reader-is : partReader o ≡ reader
+  pub room-is : partRoom o ≡ room
+  pub bytes-are : partBytes o ≡ bytes
+  pub traced-is : partTraced o ≡ traced
+
+-- ---- a run of `end`
+abbrev pub endReader : EndRan → List ℕ
+endReader o = let (reader, (room, (out, (traced, _)))) = o .arguments in reader .now
+
+abbrev pub endRoom : EndRan → List ℕ
+endRoom o = let (reader, (room, (out, (traced, _)))) = o .arguments in room .now
+
+abbrev pub endTraced : EndRan → Bool
+endTraced o = let (reader, (room, (out, (traced, _)))) = o .arguments in traced
 
 abbrev pub endSaid : EndRan → List ℕ
 endSaid o = let (reader, (room, (out, _))) = o .exit in take (o .answer .said) (out .now)
 
+-- it was lent this reader and this room, and was taken
+pub record EndLent (o : EndRan) (traced : Bool) (reader room : List ℕ) : Type 0 where
+  pub reader-is : endReader o ≡ reader
+  pub room-is : endRoom o ≡ room
+  pub traced-is : endTraced o ≡ traced
+  pub taken : o .answer .taken ≡ true
+
+-- ---- an input
 -- a part, and what comes of the rest of the input
 pub record PartRead (Rest : List ℕ → List ℕ → List ℕ → List ℕ → List ℕ → Type 0) (traced : Bool) (bytes input reader room text now : List ℕ) : Type 0 where
   pub ran : PartRan

@@ -18,6 +18,7 @@ use Rattle.navmessage.specs.Asked.{askedAnswer}
 use Rattle.orbit.specs.Got.{gotAnswer, gotOrbit, gotTimingAnswer, gotTiming}
 use Rattle.orbit.specs.declared.Orbit.{Orbit}
 use Rattle.orbit.specs.declared.TimingNumbers.{TimingNumbers}
+use Rattle.ffi_orbit.specs.Handed.{orbitIn, timingIn}
 use Rattle.navmessage.proofs.fresh.Reads as fresh
 use Rattle.navmessage.proofs.fresh.Kinds as fresh-kinds
 use Rattle.navmessage.proofs.feed.Reads as feed
@@ -231,18 +232,18 @@ abbrev heardCalls : List ℕ → List ℕ → List ℕ → List ℕ → Deeds
 heardCalls reader bytes lent left = record { lent = lent; left = left; calls = callsFrom lent [] (itemsOf (stageIn reader) bytes) }
 
 abbrev pub deedsOf : Did → Deeds
-deedsOf (freshDid o) = oneCall (o .arguments .0 .now) (o .exit .0 .now) (freshBy o)
-deedsOf (feedDid o) = oneCall (o .arguments .0 .now) (o .exit .0 .now) (feedBy o)
-deedsOf (tagDid o) = oneCall (o .arguments .0 .now) (o .exit .0 .now) (tagBy o)
-deedsOf (resetDid o) = oneCall (o .arguments .0 .now) (o .exit .0 .now) resetCall
+deedsOf (freshDid o) = let (room, _) = o .arguments in let (left, _) = o .exit in oneCall (room .now) (left .now) (freshBy o)
+deedsOf (feedDid o) = let (room, _) = o .arguments in let (left, _) = o .exit in oneCall (room .now) (left .now) (feedBy o)
+deedsOf (tagDid o) = let (room, _) = o .arguments in let (left, _) = o .exit in oneCall (room .now) (left .now) (tagBy o)
+deedsOf (resetDid o) = let (room, _) = o .arguments in let (left, _) = o .exit in oneCall (room .now) (left .now) resetCall
 deedsOf (partDid o) =
     let (reader, (room, (bytes, _))) = o .arguments in
     let (_, (left, _)) = o .exit in
     heardCalls (reader .now) (take (o .answer .took) (bytes .now)) (room .now) (left .now)
-deedsOf (cFreshDid o) = oneCall (o .arguments .0 .now) (o .exit .0 .now) (cFreshBy o)
-deedsOf (cFeedDid o) = oneCall (o .arguments .0 .now) (o .exit .0 .now) (cFeedBy o)
-deedsOf (cTagDid o) = oneCall (o .arguments .0 .now) (o .exit .0 .now) (cTagBy o)
-deedsOf (cResetDid o) = oneCall (o .arguments .0 .now) (o .exit .0 .now) resetCall
+deedsOf (cFreshDid o) = let (room, _) = o .arguments in let (left, _) = o .exit in oneCall (room .now) (left .now) (cFreshBy o)
+deedsOf (cFeedDid o) = let (room, _) = o .arguments in let (left, _) = o .exit in oneCall (room .now) (left .now) (cFeedBy o)
+deedsOf (cTagDid o) = let (room, _) = o .arguments in let (left, _) = o .exit in oneCall (room .now) (left .now) (cTagBy o)
+deedsOf (cResetDid o) = let (room, _) = o .arguments in let (left, _) = o .exit in oneCall (room .now) (left .now) resetCall
 deedsOf (cPartDid o) =
     let (reader, (room, (bytes, _))) = o .arguments in
     let (_, (left, _)) = o .exit in
@@ -252,14 +253,26 @@ deedsOf (cPartDid o) =
 pub record CedAsked : Type 0 where
   pub count : GetCedRan
   pub shown : CedDataRan
-  pub room : shown .arguments .0 .now ≡ count .arguments .0 .now
-  pub satellite : shown .arguments .1 .0 .0 ≡ count .arguments .1 .0 .0
+  pub room :
+      let (room, (svn, _)) = count .arguments in
+      let (shownRoom, (shownSvn, _)) = shown .arguments in
+      shownRoom .now ≡ room .now
+  pub satellite :
+      let (room, (svn, _)) = count .arguments in
+      let (shownRoom, (shownSvn, _)) = shown .arguments in
+      shownSvn .0 ≡ svn .0
 
 pub record TimingAsked : Type 0 where
   pub count : GetTimingRan
   pub shown : TimingDataRan
-  pub room : shown .arguments .0 .now ≡ count .arguments .0 .now
-  pub satellite : shown .arguments .1 .0 .0 ≡ count .arguments .1 .0 .0
+  pub room :
+      let (room, (svn, _)) = count .arguments in
+      let (shownRoom, (shownSvn, _)) = shown .arguments in
+      shownRoom .now ≡ room .now
+  pub satellite :
+      let (room, (svn, _)) = count .arguments in
+      let (shownRoom, (shownSvn, _)) = shown .arguments in
+      shownSvn .0 ≡ svn .0
 
 pub data Asking : Type 0 where
   cedAsking : CedAsked → Asking
@@ -307,8 +320,7 @@ orbitBy (orbitAsking o) =
 orbitBy (cOrbitAsking o) =
     let (room, (sat, _)) = o .arguments in
     let r = o .answer in
-    let orbit : Orbit = record { word1 = r .word1; word2 = r .word2; word3 = r .word3; word4 = r .word4; word5 = r .word5; scaled = r .scaled } in
-    record { family = CED; sat = sat; lent = room .now; number = r .number; counted = r .authbits; given = orbit }
+    record { family = CED; sat = sat; lent = room .now; number = r .number; counted = r .authbits; given = orbitIn r }
 
 pub data NumbersAsking : Type 0 where
   numbersAsking : GetNumbersRan → NumbersAsking
@@ -321,5 +333,4 @@ numbersBy (numbersAsking o) =
 numbersBy (cNumbersAsking o) =
     let (room, (sat, _)) = o .arguments in
     let r = o .answer in
-    let numbers : TimingNumbers = record { word6 = r .word6; word10 = r .word10; scaled = r .scaled } in
-    record { family = Timing; sat = sat; lent = room .now; number = r .number; counted = r .authbits; given = numbers }
+    record { family = Timing; sat = sat; lent = room .now; number = r .number; counted = r .authbits; given = timingIn r }
