@@ -30,6 +30,6 @@ int main(void) {
     }
     dawnstook_closed closed = dawnstook_end(reader, room, sizeof room, out, sizeof out);
     fwrite(out, 1, closed.said, stdout);
-    /* how the input ended: 13 here; 0 between records and 14 inside one, whether the line of that fits or not */
+    /* how the input ended: 13 here; 0 between items and 14 inside one, whether the line of that fits or not */
     return closed.taken && closed.number == DAWNSTOOK_UNKNOWN_KIND ? 0 : 1;
 }

@@ -15,7 +15,7 @@ const MOST_INPUT: usize = 4096;
 
 const MOST_SAID: usize = 32768;
 
-// an output that is long, and one that is full after a record or two
+// an output that is long, and one that is full after an item or two
 const LONG: usize = MOST_SAID;
 
 const SHORT: usize = LONGEST_LINE + 4;
@@ -76,7 +76,7 @@ fn offer(
     }
 }
 
-// A part offered twice, first with an output of no bytes, which takes what makes no record whole.
+// A part offered twice, first with an output of no bytes, which takes what makes no item whole.
 fn offer_twice(
     reader: &mut [u8; READER],
     room: &mut [u8],

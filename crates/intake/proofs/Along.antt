@@ -1,4 +1,4 @@
--- Stages, records, rooms, lines and answers of bytes one behind the other: of two pieces of an input they are those of the whole. Behind the end of
+-- Stages, items, rooms, lines and answers of bytes one behind the other: of two pieces of an input they are those of the whole. Behind the end of
 -- an input nothing is heard. Assumes nothing.
 use mathlib.Core.Path.{_≡_, refl, sym, ap, _∙_}
 use mathlib.Core.Bool.{Bool}

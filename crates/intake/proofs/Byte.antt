@@ -1,4 +1,4 @@
--- One byte more: the bytes kept with it are the record so far, and the kind byte says whether it is whole. Assumes nothing.
+-- One byte more: the bytes kept with it are the item so far, and the kind byte says whether it is whole. Assumes nothing.
 use native.Mathlib.Omega.{arith}
 use native.Mathlib.Numerals.{add-one}
 use native.Mathlib.Nat.{add-sub-cancel, add-comm}
@@ -96,7 +96,7 @@ module _ (traced : Bool) (room kept : List ℕ) (have b : ℕ) (out : List ℕ) 
           lines = rw (items-whole h, append-nil (linesFor traced (whole kind body) room)) p;
         }
 
--- what is kept of a record lies within its buffer, with room for a byte
+-- what is kept of an item lies within its buffer, with room for a byte
 pub notWhole-within : (kept : List ℕ) (have : ℕ) → NotWhole kept have → have < length kept
 notWhole-within kept have k = omega (arith, k .size, k .within, body-within (kindOf (getD kept 0 0)))
 
@@ -109,7 +109,7 @@ pub within-still :
 within-still kept zero b h = omega arith
 within-still kept (suc n) b h = rw (getD-set-other kept (suc n) 0 b 0 (λ e. omega arith)) h
 
--- the body of a record that is whole
+-- the body of an item that is whole
 pub body-whole :
     (kept : List ℕ) (have b : ℕ) (kind : Kind) → have < length kept → kind ≡ kindOf (getD (set kept have b) 0 0)
     → have ≤ bodyLength (kindOf (getD kept 0 0)) → bodyLength kind ≤ have

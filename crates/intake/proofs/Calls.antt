@@ -1,4 +1,4 @@
--- The room after the records of an input is that after their calls. Assumes nothing.
+-- The room after the items of an input is that after their calls. Assumes nothing.
 use mathlib.Core.Path.{_≡_, refl, ap, _∙_}
 use mathlib.Core.List.{List, [], _∷_, _++_}
 use Prim.Native.Nat.{ℕ}

@@ -1,4 +1,4 @@
--- Records of small inputs, computed. Assumes nothing.
+-- Items of small inputs, computed. Assumes nothing.
 use mathlib.Core.Path.{_≡_, refl}
 use mathlib.Core.Bool.{true, false}
 use mathlib.Core.List.{List, [], _∷_}
@@ -9,7 +9,7 @@ use Rattle.lines.specs.Kinds.{kindOf}
 use Rattle.intake.specs.Input.{whole, cut, going, ended, stageAfter, itemsWith, stageOf, itemsOf, stageAtEnd, itemsAtEnd, atStart, inputItems}
 use Rattle.intake.specs.Reader.{readerBytes, stageIn, readerOf, endFits, stageEnded, itemsEnded, numberAtEnd}
 
--- whole records, and the end inside one
+-- whole items, and the end inside one
 pub two-and-a-cut : inputItems (3 ∷ 6 ∷ 2 ∷ 4 ∷ 1 ∷ []) ≡ whole Reset [] ∷ whole Fresh (2 ∷ 4 ∷ []) ∷ cut ∷ []
 unfolding inputItems itemsOf stageOf stageAfter itemsWith itemsAtEnd kindOf
 two-and-a-cut = refl
@@ -43,12 +43,12 @@ pub kind-cut-then : let s = stageOf atStart (1 ∷ []) in
 unfolding stageOf stageAfter stageAtEnd itemsAtEnd endFits stageEnded itemsEnded kindOf
 kind-cut-then = (refl, (refl, (refl, refl)))
 
--- no bytes are no part of a record and, at the end, a clean one
+-- no bytes are no part of an item and, at the end, a clean one
 pub nothing : inputItems [] ≡ []
 unfolding inputItems itemsOf stageOf itemsAtEnd
 nothing = refl
 
--- zeros are a reader at the start; bytes that keep a whole record keep nothing
+-- zeros are a reader at the start; bytes that keep a whole item keep nothing
 pub zeros : stageIn (replicate readerBytes 0) ≡ atStart
 unfolding stageIn kindOf
 zeros = refl

@@ -1,4 +1,4 @@
--- The state of a reader as bytes: what it keeps is fewer bytes than its record has, and its bytes say where it stands. Assumes nothing.
+-- The state of a reader as bytes: what it keeps is fewer bytes than its item has, and its bytes say where it stands. Assumes nothing.
 use native.Mathlib.Omega.{arith}
 use mathlib.Core.Path.{_≡_, refl, ap, _∙_}
 use mathlib.Core.Bool.{Bool, true, false, cond}
@@ -17,7 +17,7 @@ use Rattle.lines.proofs.Longest.{body-within}
 use Rattle.intake.specs.Input.{Stage, going, ended, unfinished, behind, stageAfter, stageOf}
 use Rattle.intake.specs.Reader.{readerBytes, haveAt, endedAt, numberAt, keptIn, stageIn, stateOf, readerOf}
 
--- ---- what is kept is not a whole record
+-- ---- what is kept is not a whole item
 abbrev pub Proper : Stage → Type 0
 Proper (going kept) = unfinished kept ≡ true
 Proper (ended k) = Unit {0}
@@ -67,7 +67,7 @@ unfolding stageOf
 of-proper s [] p = p
 of-proper s (b ∷ l) p = of-proper (stageAfter s b) l (after-proper s b)
 
--- at most one unfinished record is kept: fewer bytes than it has
+-- at most one unfinished item is kept: fewer bytes than it has
 pub keeps-less : (reader kept : List ℕ) → stageIn reader ≡ going kept → length kept < 1 + bodyLength (kindOf (getD kept 0 0))
 keeps-less reader kept e =
     let p : Proper (going kept) = rw e at (stage-proper reader) in

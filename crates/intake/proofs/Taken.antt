@@ -1,5 +1,5 @@
 -- How much of a part is taken: never more than it has, and something of one that has bytes where the output takes the longest lines. The
--- end inside a record is 14, and taken where its line fits. Assumes nothing.
+-- end inside an item is 14, and taken where its line fits. Assumes nothing.
 use native.Mathlib.Omega.{arith}
 use mathlib.Core.Path.{_≡_, refl, ap}
 use mathlib.Core.Bool.{Bool, true, false, cond}
@@ -32,12 +32,12 @@ partTaken-some traced limit room s (b ∷ l) h n = rw (not-full (itemsWith s b))
     not-full [] = refl
     not-full (item ∷ rest) = le-ltb limit (0 + mostFor traced) (omega arith)
 
--- the line of a record alone is no longer than what it prints
+-- the line of an item alone is no longer than what it prints
 pub line-fits : (traced : Bool) → longestLine ≤ mostFor traced
 line-fits true = omega arith
 line-fits false = omega arith
 
--- ---- the end of the input inside a record
+-- ---- the end of the input inside an item
 module _ (traced : Bool) (out kept : List ℕ) (some : length kept ≡ 0 → ⊥) where
   items-cut : (l : List ℕ) → (length l ≡ 0 → ⊥) → itemsAtEnd (going l) ≡ cut ∷ []
   unfolding itemsAtEnd

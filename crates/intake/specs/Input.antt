@@ -1,4 +1,4 @@
--- STORE 17: the records of an input, heard byte by byte, so that it may come in parts; what they print, and the room after them.
+-- STORE 17: the items of an input, heard byte by byte, so that it may come in parts; what they print, and the room after them.
 use Prim.Native.Nat.{ℕ, _+_}
 use mathlib.Core.Bool.{Bool, true, false, cond}
 use mathlib.Core.List.{List, [], _∷_, _++_}
@@ -16,21 +16,21 @@ use Rattle.lines.specs.Lines.{lineOf, longestLine}
 use Rattle.benchlines.specs.Items.{Deed, says, deedOf, callsIn, answerOn, unknownKind, wholeLine}
 
 -- ---- what stands in an input
--- STORE 17.1, 17.4: a whole record, by its kind and its body; or the end of the input inside a record
+-- STORE 17.1, 17.4: a whole item, by its kind and its body; or the end of the input inside an item
 pub data Item : Type 0 where
   whole : Kind → List ℕ → Item
   cut : Item
 
--- STORE 17.1, 17.4: where a reader stands: it goes on, with these bytes of an unfinished record; or it has ended, with this number
+-- STORE 17.1, 17.4: where a reader stands: it goes on, with these bytes of an unfinished item; or it has ended, with this number
 pub data Stage : Type 0 where
   going : List ℕ → Stage
   ended : ℕ → Stage
 
--- STORE 17.1: the kind byte says how many bytes a record has: these are fewer
+-- STORE 17.1: the kind byte says how many bytes an item has: these are fewer
 abbrev pub unfinished : List ℕ → Bool
 unfinished bytes = ltb (length bytes) (1 + bodyLength (kindOf (getD bytes 0 0)))
 
--- STORE 17.4: behind a whole record the next one begins; an unknown kind ends the input
+-- STORE 17.4: behind a whole item the next one begins; an unknown kind ends the input
 abbrev pub behind : Kind → Stage
 behind Word = going []
 behind Tag = going []
@@ -49,7 +49,7 @@ unfoldable pub stageAfter : Stage → ℕ → Stage
 stageAfter (going bytes) b = stageWith (bytes ++ (b ∷ []))
 stageAfter (ended k) b = ended k
 
--- the record that it makes whole, if it does
+-- the item that it makes whole, if it does
 abbrev pub itemsIn : List ℕ → List Item
 itemsIn bytes = cond (unfinished bytes) [] (whole (kindOf (getD bytes 0 0)) (drop 1 bytes) ∷ [])
 
@@ -66,7 +66,7 @@ unfoldable pub itemsOf : Stage → List ℕ → List Item
 itemsOf s [] = []
 itemsOf s (b ∷ l) = let later = itemsOf (stageAfter s b) l in itemsWith s b ++ later
 
--- STORE 17.4: the end of the input; inside a record it is 14
+-- STORE 17.4: the end of the input; inside an item it is 14
 abbrev pub cutShort : ℕ
 cutShort = 14
 
@@ -80,7 +80,7 @@ itemsAtEnd (going []) = []
 itemsAtEnd (going (b ∷ l)) = cut ∷ []
 itemsAtEnd (ended k) = []
 
--- the records of an input
+-- the items of an input
 abbrev pub atStart : Stage
 atStart = going []
 

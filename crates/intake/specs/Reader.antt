@@ -10,7 +10,7 @@ use Rattle.lines.specs.Kinds.{kindOf, bodyLength, longestItem}
 use Rattle.benchlines.specs.Items.{unknownKind}
 use Rattle.intake.specs.Input.{Item, Stage, going, ended, unfinished, stageAfter, itemsWith, itemsOf, stageAtEnd, itemsAtEnd, mostFor, roomOf, linesOf}
 
--- ---- the state, as bytes: room for a record, how many bytes of it are kept, whether the input has ended (0 is no), and its number
+-- ---- the state, as bytes: room for an item, how many bytes of it are kept, whether the input has ended (0 is no), and its number
 abbrev pub haveAt : ℕ
 haveAt = longestItem
 
@@ -23,7 +23,7 @@ numberAt = longestItem + 2
 abbrev pub readerBytes : ℕ
 readerBytes = longestItem + 3
 
--- where bytes say that a reader stands; where what they keep is no unfinished record, nothing is kept
+-- where bytes say that a reader stands; where what they keep is no unfinished item, nothing is kept
 abbrev pub keptIn : List ℕ → List ℕ
 keptIn bytes = cond (unfinished bytes) bytes []
 
@@ -47,7 +47,7 @@ stageNumber (going kept) = 0
 stageNumber (ended k) = k
 
 -- ---- an output of so many bytes, of which so many are written
--- the byte makes a record whole, and what it prints might not fit
+-- the byte makes an item whole, and what it prints might not fit
 abbrev pub any : List Item → Bool
 any [] = false
 any (item ∷ l) = true
@@ -55,7 +55,7 @@ any (item ∷ l) = true
 abbrev pub full : Bool → ℕ → ℕ → List Item → Bool
 full traced limit said items = any items && ltb limit (said + mostFor traced)
 
--- how many bytes of a part are taken: all of them, or those before the byte that would make such a record whole
+-- how many bytes of a part are taken: all of them, or those before the byte that would make such an item whole
 unfoldable pub partTaken : Bool → ℕ → ℕ → List ℕ → Stage → List ℕ → ℕ
 partTaken traced limit said room s [] = 0
 partTaken traced limit said room s (b ∷ l) =
@@ -83,7 +83,7 @@ itemsEnded traced out s = cond (endFits traced out s) (itemsAtEnd s) []
 abbrev pub numberAtEnd : Stage → ℕ
 numberAtEnd s = stageNumber (stageAtEnd s)
 
--- ---- while a part is taken: where the reader stands by its buffer, and that what is kept is not a whole record
+-- ---- while a part is taken: where the reader stands by its buffer, and that what is kept is not a whole item
 abbrev pub standing : List ℕ → ℕ → Bool → Stage
 standing kept have stopped = cond stopped (ended unknownKind) (going (take have kept))
 

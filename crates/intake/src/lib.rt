@@ -1,5 +1,5 @@
 // An input of the bench taken as it comes, part by part (STORE 17.8): a reader's state and the room are lent, and the lines for the
-// records that a part makes whole go into a lent output. All zero is the state of a reader at the start.
+// items that a part makes whole go into a lent output. All zero is the state of a reader at the start.
 use lines::Kind;
 use lines::LONGEST_ITEM;
 use lines::LONGEST_LINE;
@@ -23,7 +23,7 @@ ghost use Rattle.intake.specs.Input.{traceLine, traceBytes, mostFor, lin
 ghost use Rattle.intake.specs.Reader.{readerBytes, haveAt, keptIn, stageIn, stateOf, readerOf, stageNumber, full};
 ghost use Rattle.intake.specs.Reader.{Took, Stepped, endFits, stageEnded, itemsEnded, numberAtEnd, standing, NotWhole};
 
-// the state: room for a record, how many bytes of it are kept, whether the input has ended, and its number
+// the state: room for an item, how many bytes of it are kept, whether the input has ended, and its number
 const HAVE_AT: usize = LONGEST_ITEM;
 
 const ENDED_AT: usize = LONGEST_ITEM + 1;
@@ -77,7 +77,7 @@ fn put_trace(out: &mut [u8], at: usize, room: &[u8]) -> usize
     put_bytes(out, summed, b"\n")
 }
 
-// How long what is printed for a record can be.
+// How long what is printed for an item can be.
 fn most(traced: bool) -> usize
     ensures { λ r. ⌜ r ≡ mostFor traced ⌝ }
 {
@@ -87,7 +87,7 @@ fn most(traced: bool) -> usize
     LONGEST_LINE
 }
 
-// The lines for a whole record.
+// The lines for a whole item.
 fn put_item(
     room: &mut [u8],
     kind: Kind,
@@ -107,7 +107,7 @@ fn put_item(
     next
 }
 
-// The lines for an input that ends inside a record.
+// The lines for an input that ends inside an item.
 fn put_cut(room: &[u8], out: &mut [u8], traced: bool) -> usize
     requires { ⌜ mostFor traced ≤ length (now out) ⌝ }
     ensures { λ r. ⌜ Put (now (out .entry)) 0 (linesFor traced cut (now (room .entry))) (now (out .exit)) r ⌝ }
@@ -126,7 +126,7 @@ fn put_cut(room: &[u8], out: &mut [u8], traced: bool) -> usize
     next
 }
 
-// Whether the input ends behind a record of this kind.
+// Whether the input ends behind an item of this kind.
 fn ends(kind: Kind) -> bool
     ensures { λ r. ⌜ behind kind ≡ cond r (ended unknownKind) (going []) ⌝ }
 {
@@ -142,7 +142,7 @@ fn ends(kind: Kind) -> bool
     }
 }
 
-// One byte more. A record that is whole by now is answered, unless its lines might not fit.
+// One byte more. An item that is whole by now is answered, unless its lines might not fit.
 fn take_byte(
     room: &mut [u8],
     kept: &mut [u8],
@@ -185,7 +185,7 @@ fn take_byte(
     }
 }
 
-// More bytes, one after the other: all of them, or those before a record whose lines might not fit.
+// More bytes, one after the other: all of them, or those before an item whose lines might not fit.
 fn take_bytes(
     room: &mut [u8],
     kept: &mut [u8],
@@ -234,7 +234,7 @@ fn take_bytes(
     }
 }
 
-// How many bytes of an unfinished record a state keeps.
+// How many bytes of an unfinished item a state keeps.
 fn kept_in(reader: &[u8]) -> usize
     requires { ⌜ length (now reader) ≡ readerBytes ⌝ }
     ensures { λ r. ⌜ (take r (now (reader .entry)) ≡ keptIn (take (getD (now (reader .entry)) haveAt 0) (now (reader .entry))))
@@ -271,7 +271,7 @@ fn keep(reader: &mut [u8], have: usize, end: u8, number: u8)
     put_bytes(reader, HAVE_AT, &tail);
 }
 
-// A part of an input. It is taken whole, but for a record whose lines might not fit into the output and what stands behind it: the caller
+// A part of an input. It is taken whole, but for an item whose lines might not fit into the output and what stands behind it: the caller
 // goes on from there. Behind the input's end every part is taken, and nothing happens.
 pub fn part(
     reader: &mut [u8; READER],
@@ -314,7 +314,7 @@ pub fn part(
     }
 }
 
-// The end of the input. Where a record is unfinished it is 14 and prints a line; while that might not fit it is not taken, and 14 too.
+// The end of the input. Where an item is unfinished it is 14 and prints a line; while that might not fit it is not taken, and 14 too.
 pub fn end(reader: &mut [u8; READER], room: &[u8], out: &mut [u8], traced: bool) -> Closed
     ensures { λ r. ⌜ now (reader .exit) ≡ readerOf (stageEnded traced (now (out .entry)) (stageIn (now (reader .entry)))) ⌝ }
     ensures { λ r. ⌜ (r .number ≡ numberAtEnd (stageIn (now (reader .entry))))

@@ -13,7 +13,7 @@ ghost use lib.ListN.{replicate};
 ghost use Rattle.intake.specs.Input.{stageOf, itemsOf, roomOf, benchRoom};
 ghost use Rattle.intake.specs.Reader.{readerBytes, stageIn};
 
-// how many bytes are read at once, and room for the lines of many records
+// how many bytes are read at once, and room for the lines of many items
 const READ: usize = 4096;
 
 const PRINTED: usize = 16 * (LONGEST_LINE + TRACE);

@@ -1,4 +1,4 @@
--- `end`: behind the input's end nothing happens; else it ends between records, or inside one, whose line fits or not.
+-- `end`: behind the input's end nothing happens; else it ends between items, or inside one, whose line fits or not.
 use native.Mathlib.Omega.{arith}
 use mathlib.Core.Path.{_≡_, refl, sym, _∙_}
 use mathlib.Core.List.{append-nil}

@@ -1,4 +1,4 @@
--- `kept_in`: what a state keeps is an unfinished record, or nothing.
+-- `kept_in`: what a state keeps is an unfinished item, or nothing.
 use native.Mathlib.Omega.{arith}
 use Rattle.intake.proofs.State.{kept-few, kept-none}
 use borrow.Author.Needs.{needs}

@@ -1,4 +1,4 @@
--- `put_item`: the record's line, and behind it what `trace` adds.
+-- `put_item`: the item's line, and behind it what `trace` adds.
 use native.Mathlib.Omega.{arith}
 use Rattle.text.proofs.Puts.{put-then, put-none}
 use Rattle.intake.specs.Input.{linesFor}

@@ -1,4 +1,4 @@
--- `take_byte`: the byte stands behind those that are kept; what is kept then is a part of a record, or a whole one whose lines fit or not.
+-- `take_byte`: the byte stands behind those that are kept; what is kept then is a part of an item, or a whole one whose lines fit or not.
 use native.Mathlib.Omega.{arith}
 use mathlib.Core.Path.{_∙_}
 use lib.ListN.{length-set}
