@@ -5,7 +5,7 @@
 //     2, form, room, n, message n                                                               r and the number
 //
 // Room is how many bytes are lent to the call, all a5 before it. Behind 0 stand, of a message read back, the data's satellite, the sender,
-// week, time, counter and status; and last the whole lent buffer in hex. A byte that is no kind byte prints `x 13`, an input that ends inside a
+// week, time, counter and status; and last the whole lent buffer in hex. A byte that is no kind byte prints `x 13`, an input that ends inside an
 // item `x 14`; after either the program stops.
 use gst::Gst;
 use gst::Tow;
