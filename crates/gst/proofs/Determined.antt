@@ -9,6 +9,8 @@ use Rattle.gst.proofs.tow_too_large.Reads as tow-too-large-reads
 use Rattle.gst.proofs.tow_too_large.Kinds as tow-too-large-kinds
 use Rattle.gst.proofs.not_a_start.Reads as not-a-start-reads
 use Rattle.gst.proofs.not_a_start.Kinds as not-a-start-kinds
+use Rattle.gst.proofs.subframe_at.Reads as subframe-at-reads
+use Rattle.gst.proofs.subframe_at.Kinds as subframe-at-kinds
 use Rattle.gst.proofs.start_of.Reads as start-of-reads
 use Rattle.gst.proofs.start_of.Kinds as start-of-kinds
 use Rattle.gst.proofs.Gst.add_seconds.Reads as add-seconds-reads
@@ -50,6 +52,14 @@ pub not-a-start-determined :
     (e e' : AtExit (endedOf 0 not-a-start-kinds.ps not-a-start-kinds.r) κs)
     → not-a-start-reads.Post κs a r e → not-a-start-reads.Post κs a r' e' → r ≡ r'
 not-a-start-determined κs a r r' e e' p q = opposite r r' (p ∙ sym q)
+
+pub subframe-at-determined :
+    (κs : Lfts 0)
+    (a : Dens κs subframe-at-kinds.ps)
+    (r r' : resT subframe-at-kinds.r κs .Denot)
+    (e e' : AtExit (endedOf 0 subframe-at-kinds.ps subframe-at-kinds.r) κs)
+    → subframe-at-reads.Post κs a r e → subframe-at-reads.Post κs a r' e' → r ≡ r'
+subframe-at-determined κs a r r' e e' p q = p ∙ sym q
 
 pub start-of-determined :
     (κs : Lfts 0)
