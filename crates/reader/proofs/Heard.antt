@@ -1,11 +1,11 @@
 -- Bytes that are heard one behind the other are heard as one, and behind the end of an input all are. Assumes nothing.
 use native.Mathlib.Omega.{arith}
 use mathlib.Core.Path.{_≡_, refl, sym, ap, _∙_}
+use mathlib.Core.Bool.{Bool, false}
 use mathlib.Core.Logic.{⊎-elim}
 use mathlib.Core.List.{List, [], _∷_, _++_}
 use Prim.Native.Nat.{ℕ, _+_, _≤_}
 use lib.ListN.{length, take, drop, replicate, take-append-drop, length-append}
-use lib.Seq.{length-take-le}
 use types.Run.{OneOf}
 use denote.Enum.Declared.{tagOf}
 use Rattle.intake.specs.Input.{Item, Stage, going, ended, stageOf, itemsOf, stageAtEnd, roomOf}
@@ -16,7 +16,7 @@ use Rattle.intake.proofs.Examples.{zeros}
 use Rattle.reader.proofs.Course.{the-type}
 use Rattle.reader.specs.declared.Course.{Course}
 use Rattle.reader.specs.declared.Course.the-variants.{More, Over, Finished, Unread, Unwritten}
-use Rattle.reader.specs.Turns.{HeardAll, HeardSome, HeardToEnd, GoesOn, TakenBy, TurnedBy, Turned}
+use Rattle.reader.specs.Turns.{HeardAll, HeardSome, HeardToEnd, GoesOn, TakenBy, ReadBy, TurnedBy, Turned}
 
 pub heard-none : (reader room : List ℕ) → HeardAll reader room [] reader room
 unfolding stageOf itemsOf roomOf
@@ -70,15 +70,25 @@ unfolding stageOf itemsOf roomOf
 heard-end reader room reader' e = record { stands = ap stageIn e ∙ end-back (stageIn reader); leaves = refl }
 
 -- ---- turns
--- bytes that were read, one of them at least, are a turn
-pub taken-turned : (course : Course) (reader room : List ℕ) (n : ℕ) (l reader' room' : List ℕ) → TakenBy course reader room (take n l) reader' room'
-    → (n ≡ 0 → ⊥) → n ≤ length l → Turned course 1 reader room reader' room'
-taken-turned More reader room n l reader' room' t some h =
-    record { bytes = take n l; case = (t .0, (t .1, rw (length-take-le n l h) (omega arith))) }
-taken-turned Over reader room n l reader' room' t some h = record { bytes = take n l; case = t }
-taken-turned Finished reader room n l reader' room' t some h = absurd t
-taken-turned Unread reader room n l reader' room' t some h = absurd t
-taken-turned Unwritten reader room n l reader' room' t some h = record { bytes = take (t .count) (take n l); case = t .heard }
+-- bytes that were read and taken, one of them at least
+pub taken-read : (course : Course) (failed : Bool) (reader room bytes reader' room' : List ℕ) → failed ≡ false → (length bytes ≡ 0 → ⊥)
+    → TakenBy course reader room bytes reader' room' → ReadBy course failed reader room bytes reader' room'
+taken-read More failed reader room bytes reader' room' e some t = (e, (some, t))
+taken-read Over failed reader room bytes reader' room' e some t = (e, (some, t))
+taken-read Unwritten failed reader room bytes reader' room' e some t = (e, (some, t))
+taken-read Finished failed reader room bytes reader' room' e some t = absurd t
+taken-read Unread failed reader room bytes reader' room' e some t = absurd t
+
+-- what a read came to is a turn
+pub read-turned : (course : Course) (failed : Bool) (reader room bytes reader' room' : List ℕ) → ReadBy course failed reader room bytes reader' room'
+    → Turned course 1 reader room reader' room'
+read-turned More failed reader room bytes reader' room' t =
+    let some = t .1 .0 in
+    record { bytes = bytes; case = (t .1 .1 .0, (t .1 .1 .1, omega arith)) }
+read-turned Over failed reader room bytes reader' room' t = record { bytes = bytes; case = t .1 .1 }
+read-turned Finished failed reader room bytes reader' room' t = record { bytes = []; case = t .1 .1 }
+read-turned Unread failed reader room bytes reader' room' t = record { bytes = []; case = t .1 }
+read-turned Unwritten failed reader room bytes reader' room' t = record { bytes = take (t .1 .1 .count) bytes; case = t .1 .1 .heard }
 
 -- a turn more
 pub turned-then : (course : Course) (n least : ℕ) (reader room reader' room' reader'' room'' : List ℕ)

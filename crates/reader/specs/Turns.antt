@@ -2,7 +2,8 @@
 -- That a read or a write failed no contract can say either.
 use Prim.Native.Nat.{ℕ, _^_, _-_, _≤_}
 use mathlib.Core.Path.{_≡_}
-use mathlib.Core.List.{List}
+use mathlib.Core.Bool.{Bool, true, false}
+use mathlib.Core.List.{List, []}
 use lib.ListN.{length, take}
 use Rattle.intake.specs.Input.{stageOf, itemsOf, stageAtEnd, roomOf}
 use Rattle.intake.specs.Reader.{stageIn, stageNumber}
@@ -35,6 +36,14 @@ TakenBy Over reader room bytes reader' room' = HeardAll reader room bytes reader
 TakenBy Finished reader room bytes reader' room' = ⊥
 TakenBy Unread reader room bytes reader' room' = ⊥
 TakenBy Unwritten reader room bytes reader' room' = HeardSome reader room bytes reader' room'
+
+-- what a read came to, failed or not: a failed one is nothing, one of no bytes is the end, and others are taken
+abbrev pub ReadBy : Course → Bool → List ℕ → List ℕ → List ℕ → List ℕ → List ℕ → Type 0
+ReadBy More failed reader room bytes reader' room' = (failed ≡ false) × ((length bytes ≡ 0 → ⊥) × TakenBy More reader room bytes reader' room')
+ReadBy Over failed reader room bytes reader' room' = (failed ≡ false) × ((length bytes ≡ 0 → ⊥) × TakenBy Over reader room bytes reader' room')
+ReadBy Finished failed reader room bytes reader' room' = (failed ≡ false) × ((length bytes ≡ 0) × HeardToEnd reader room [] reader' room')
+ReadBy Unread failed reader room bytes reader' room' = (failed ≡ true) × (HeardAll reader room [] reader' room' × GoesOn reader')
+ReadBy Unwritten failed reader room bytes reader' room' = (failed ≡ false) × ((length bytes ≡ 0 → ⊥) × TakenBy Unwritten reader room bytes reader' room')
 
 -- reads: where the program goes on, so many bytes at least were read
 abbrev pub TurnedBy : Course → ℕ → List ℕ → List ℕ → List ℕ → List ℕ → List ℕ → Type 0

@@ -11,7 +11,7 @@ ghost use mathlib.Core.Path.{_≡_};
 ghost use lib.ListN.{replicate};
 ghost use Rattle.intake.specs.Input.{stageAtEnd, benchRoom};
 ghost use Rattle.intake.specs.Reader.{readerBytes, stageIn, readerOf};
-ghost use Rattle.reader.specs.Turns.{GoesOn, TakenBy, Turned, mostTurns};
+ghost use Rattle.reader.specs.Turns.{GoesOn, TakenBy, ReadBy, Turned, mostTurns};
 
 // how many bytes are read at once, and room for the lines of many records
 const READ: usize = 4096;
@@ -68,24 +68,38 @@ fn finish(reader: &mut [u8; READER], room: &[u8], traced: bool)
     print(&out[..said]);
 }
 
-// One read of standard input. A read that brings nothing is the end of the input, and no part of it; one that fails stops the program with a
-// line on standard error.
+// What a read of standard input came to: it failed, or it brought these bytes. None is the end of the input, and no part of it; a read that
+// failed stops the program with a line on standard error.
+fn hear(
+    reader: &mut [u8; READER],
+    room: &mut [u8],
+    failed: bool,
+    bytes: &[u8],
+    traced: bool,
+) -> Course
+    requires { ⌜ GoesOn (now reader) ⌝ }
+    ensures { λ r. ⌜ ReadBy r failed (now (reader .entry)) (now (room .entry)) (now (bytes .entry)) (now (reader .exit)) (now (room .exit)) ⌝ }
+{
+    if failed {
+        io::write_all(STDERR_FILENO, b"cannot read standard input\n");
+        return Course::Unread;
+    }
+    if bytes.len() == 0 {
+        finish(reader, room, traced);
+        return Course::Finished;
+    }
+    take(reader, room, bytes, traced)
+}
+
+// One read of standard input.
 fn turn(reader: &mut [u8; READER], room: &mut [u8], traced: bool) -> Course
     requires { ⌜ GoesOn (now reader) ⌝ }
     ensures { λ r. ⌜ Turned r 1 (now (reader .entry)) (now (room .entry)) (now (reader .exit)) (now (room .exit)) ⌝ }
 {
     let mut bytes = [0u8; READ];
     let got = libc::read(STDIN_FILENO, &mut bytes);
-    if got < 0 {
-        io::write_all(STDERR_FILENO, b"cannot read standard input\n");
-        return Course::Unread;
-    }
     let n = io::count(got, &bytes);
-    if n == 0 {
-        finish(reader, room, traced);
-        return Course::Finished;
-    }
-    take(reader, room, &bytes[..n], traced)
+    hear(reader, room, got < 0, &bytes[..n], traced)
 }
 
 // The program on the state and the room that it starts with. A proved loop has to end, and nothing says that an input does: it counts its
