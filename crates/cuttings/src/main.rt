@@ -1,6 +1,8 @@
 // Inputs of the bench in one piece and in parts (STORE 17.8). Standard input has one input behind the other, each behind its length in two
 // bytes. Of each the lines in one piece are printed, and then that it gives the same lines and the same room however it comes: cut into
 // two at every place, as single bytes, and with outputs that are too short again and again, each time with empty parts in between.
+// Two bytes 255 in place of a length begin a trial: a reader's state, how many steps follow in a byte, and the steps. A step is a part or an
+// end, with an output of so many bytes; its number, what was taken, the Adler-32 of the state that it leaves, and its lines are printed.
 use intake::READER;
 use layout::MOST_ROOM;
 use libc::STDERR_FILENO;
@@ -14,6 +16,11 @@ ghost use lib.ListN.{length};
 const MOST_INPUT: usize = 4096;
 
 const MOST_SAID: usize = 32768;
+
+// what stands for a length where a trial begins, and the longest part and the longest output of a step
+const TRIAL: usize = 65535;
+
+const MOST_STEP: usize = 256;
 
 // an output that is long, and one that is full after an item or two
 const LONG: usize = MOST_SAID;
@@ -280,7 +287,97 @@ fn one_of(bytes: &mut [u8], n: usize) -> bool
     true
 }
 
-// The next input of standard input: whether there is one.
+fn number(value: u64) {
+    text(b" ");
+    io::print_decimal(STDOUT_FILENO, value);
+}
+
+// A part: its number, how many bytes were taken, the state behind it and its lines.
+fn try_part(reader: &mut [u8; READER], room: &mut [u8], bytes: &[u8], out: &mut [u8]) {
+    let heard = intake::part(reader, room, bytes, out, false);
+    let said = heard.said;
+    text(b"part");
+    number(heard.number as u64);
+    number(heard.took as u64);
+    number(adler::adler32(reader) as u64);
+    text(b"\n");
+    text(&out[..said]);
+}
+
+fn taken(holds: bool) {
+    if holds {
+        text(b" taken");
+        return;
+    }
+    text(b" not taken");
+}
+
+// An end: its number, whether it was taken, the state behind it and its line.
+fn try_end(reader: &mut [u8; READER], room: &[u8], out: &mut [u8]) {
+    let closed = intake::end(reader, room, out, false);
+    let said = closed.said;
+    text(b"end");
+    number(closed.number as u64);
+    taken(closed.taken);
+    number(adler::adler32(reader) as u64);
+    text(b"\n");
+    text(&out[..said]);
+}
+
+// One step: an end or a part, with an output of so many bytes.
+fn step(reader: &mut [u8; READER], room: &mut [u8], ends: u8, most: u8, bytes: &[u8]) {
+    let mut out = [0u8; MOST_STEP];
+    let limit = numbers::as_usize(most);
+    if ends != 0 {
+        try_end(reader, room, &mut out[..limit]);
+        return;
+    }
+    try_part(reader, room, bytes, &mut out[..limit]);
+}
+
+// The next step of standard input: whether there is one.
+fn next_step(reader: &mut [u8; READER], room: &mut [u8]) -> bool {
+    let mut head = [0u8; 3];
+    let mut bytes = [0u8; MOST_STEP];
+    if io::read_full(STDIN_FILENO, &mut head) < 3 {
+        return false;
+    }
+    let n = numbers::as_usize(head[2]);
+    if io::read_full(STDIN_FILENO, &mut bytes[..n]) < n {
+        return false;
+    }
+    step(reader, room, head[0], head[1], &bytes[..n]);
+    true
+}
+
+// So many steps: whether they are there.
+fn steps(reader: &mut [u8; READER], room: &mut [u8], count: u8) -> bool {
+    let mut left = count;
+    while left > 0 {
+        if !next_step(reader, room) {
+            io::write_all(STDERR_FILENO, b"cannot read standard input\n");
+            return false;
+        }
+        left -= 1;
+    }
+    true
+}
+
+// A trial: whether it is there.
+fn trial() -> bool {
+    let mut reader = [0u8; READER];
+    let mut room = [0u8; MOST_ROOM];
+    let mut count = [0u8; 1];
+    if io::read_full(STDIN_FILENO, &mut reader) < READER {
+        return false;
+    }
+    if io::read_full(STDIN_FILENO, &mut count) < 1 {
+        return false;
+    }
+    steps(&mut reader, &mut room, count[0])
+}
+
+// The next input or trial of standard input: whether there is one.
 fn next() -> bool {
     let mut head = [0u8; 2];
     let mut bytes = [0u8; MOST_INPUT];
@@ -288,6 +385,9 @@ fn next() -> bool {
         return false;
     }
     let n = numbers::as_usize(head[0]) * 256 + numbers::as_usize(head[1]);
+    if n == TRIAL {
+        return trial();
+    }
     if n > MOST_INPUT {
         io::write_all(STDERR_FILENO, b"an input is too long\n");
         return false;

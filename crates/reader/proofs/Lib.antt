@@ -1,3 +1,4 @@
 -- The laws of `reader`.
+pub mod Heard
 pub mod Offered
 pub mod Determined

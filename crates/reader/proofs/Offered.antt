@@ -3,34 +3,34 @@
 use native.Mathlib.Omega.{arith}
 use mathlib.Core.Path.{_≡_, refl, sym, ap, _∙_}
 use mathlib.Core.Bool.{Bool, true, false}
-use mathlib.Core.List.{List, _++_}
+use mathlib.Core.List.{List, [], _∷_}
 use Prim.Native.Nat.{ℕ, _+_, _-_, _≤_, _<_}
-use lib.ListN.{length, take, drop, length-drop}
+use lib.ListN.{length, take, drop, replicate, length-drop, length-replicate}
 use lib.Seq.{take-all, take-add}
+use borrow.Author.Tests.{le-ltb}
 use Rattle.lines.specs.Lines.{longestLine}
-use Rattle.intake.specs.Input.{Stage, stageOf, itemsOf, roomOf, traceBytes, mostFor}
-use Rattle.intake.specs.Reader.{stageIn, readerOf, Took}
-use Rattle.intake.proofs.Along.{stages, items, rooms}
+use Rattle.intake.specs.Input.{Item, Stage, stageOf, stageAtEnd, itemsAtEnd, traceBytes, mostFor}
+use Rattle.intake.specs.Reader.{stageIn, readerOf, stageNumber, full, endFits, stageEnded, Took}
 use Rattle.intake.proofs.State.{of-proper, stage-proper, stage-back}
 use Rattle.intake.proofs.Taken.{partTaken-most, partTaken-some}
+use Rattle.reader.specs.Turns.{HeardAll, HeardSome, GoesOn}
+use Rattle.reader.proofs.Heard.{heard-none, heard-then, heard-over}
 
 -- the rest of what was read
 pub rest-is : (bytes : List ℕ) (at : ℕ) → take (length bytes - at) (drop at bytes) ≡ drop at bytes
 rest-is bytes at = take-all (length bytes - at) (drop at bytes) (omega (arith, length-drop at bytes))
 
-most-fits : (traced : Bool) → mostFor traced ≤ longestLine + traceBytes
+pub most-fits : (traced : Bool) → mostFor traced ≤ longestLine + traceBytes
 most-fits true = omega arith
 most-fits false = omega arith
 
--- so far: the reader stands, and the room is, as after the first bytes of what was read
+-- so far: the first bytes of what was read are heard
 pub record OfferSofar (reader₀ room₀ bytes reader room : List ℕ) (at : ℕ) : Type 0 where
   pub within : at ≤ length bytes
-  pub stands : stageIn reader ≡ stageOf (stageIn reader₀) (take at bytes)
-  pub leaves : room ≡ roomOf room₀ (itemsOf (stageIn reader₀) (take at bytes))
+  pub heard : HeardAll reader₀ room₀ (take at bytes) reader room
 
 pub offer-begun : (reader room bytes : List ℕ) → OfferSofar reader room bytes reader room 0
-unfolding stageOf itemsOf roomOf
-offer-begun reader room bytes = record { within = omega arith; stands = refl; leaves = refl }
+offer-begun reader room bytes = record { within = omega arith; heard = heard-none reader room }
 
 module _ (reader₀ room₀ bytes reader room : List ℕ) (at : ℕ) (before : OfferSofar reader₀ room₀ bytes reader room at)
     (traced : Bool) (out reader' room' out' : List ℕ) (took said : ℕ)
@@ -59,43 +59,44 @@ module _ (reader₀ room₀ bytes reader room : List ℕ) (at : ℕ) (before : O
             (omega (arith, most-fits traced, long)) size,
       )
 
-  pub offer-more :
-      reader' ≡ readerOf (stageOf (stageIn reader) (take took (take (length bytes - at) (drop at bytes))))
-      → OfferSofar reader₀ room₀ bytes reader' room' (at + took)
-  offer-more e =
-      record {
-        within = fits;
-        stands = stands;
-        leaves = leaves;
-      }
-    where
-      s : Stage
-      s = stageIn reader₀
+  -- what `part` says of the reader
+  module _ (e : reader' ≡ readerOf (stageOf (stageIn reader) (take took (take (length bytes - at) (drop at bytes))))) where
+    stands : stageIn reader' ≡ stageOf (stageIn reader) (take took (take (length bytes - at) (drop at bytes)))
+    stands = ap stageIn e ∙ stage-back _ (of-proper (stageIn reader) _ (stage-proper reader))
 
-      piece : List ℕ
-      piece = take took (drop at bytes)
+    pub offer-more : OfferSofar reader₀ room₀ bytes reader' room' (at + took)
+    offer-more =
+        let is : take took (take (length bytes - at) (drop at bytes)) ≡ take took (drop at bytes) = ap (take took) (rest-is bytes at) in
+        let piece : HeardAll reader room (take took (drop at bytes)) reader' room' = record { stands = rw is at stands; leaves = rw is at (t .leaves) } in
+        record {
+          within = fits;
+          heard = rw (take-add at took bytes) (heard-then (before .heard) piece);
+        }
 
-      is : take took (take (length bytes - at) (drop at bytes)) ≡ piece
-      is = ap (take took) (rest-is bytes at)
+    pub offer-some : HeardSome reader₀ room₀ bytes reader' room'
+    offer-some = record { count = at + took; heard = offer-more .heard }
 
-      front : take (at + took) bytes ≡ take at bytes ++ piece
-      front = take-add at took bytes
+    -- its number is that of the reader
+    module _ (number : ℕ) (n : number ≡ stageNumber (stageOf (stageIn reader) (take took (take (length bytes - at) (drop at bytes))))) where
+      pub on : number ≡ 0 → GoesOn reader'
+      on h = ap stageNumber stands ∙ sym n ∙ h
 
-      stands : stageIn reader' ≡ stageOf s (take (at + took) bytes)
-      stands =
-          ap stageIn e
-          ∙ stage-back _ (of-proper (stageIn reader) _ (stage-proper reader))
-          ∙ rw (is, before .stands, front) (sym (stages s (take at bytes) piece))
-
-      leaves : room' ≡ roomOf room₀ (itemsOf s (take (at + took) bytes))
-      leaves =
-          t .leaves
-          ∙ rw (is, before .stands, before .leaves, front, items s (take at bytes) piece)
-          (sym (rooms room₀ (itemsOf s (take at bytes)) (itemsOf (stageOf s (take at bytes)) piece)))
+      pub over : (number ≡ 0 → ⊥) → HeardAll reader₀ room₀ bytes reader' room' × (GoesOn reader' → ⊥)
+      over h =
+          let not : GoesOn reader' → ⊥ = λ g. h (n ∙ sym (ap stageNumber stands) ∙ g) in
+          (heard-over (at + took) bytes (offer-more .heard) not, not)
 
 -- all of it
 pub all-taken : (reader₀ room₀ bytes reader room : List ℕ) (at : ℕ) → OfferSofar reader₀ room₀ bytes reader room at → length bytes ≤ at
-    → (stageIn reader ≡ stageOf (stageIn reader₀) bytes) × (room ≡ roomOf room₀ (itemsOf (stageIn reader₀) bytes))
-all-taken reader₀ room₀ bytes reader room at S h =
-    let whole = take-all at bytes h in
-    (rw whole at (S .stands), rw whole at (S .leaves))
+    → HeardAll reader₀ room₀ bytes reader room
+all-taken reader₀ room₀ bytes reader room at S h = rw (take-all at bytes h) at (S .heard)
+
+-- the end, with room for its line, is taken
+pub end-fits : (traced : Bool) (n : ℕ) (s : Stage) → longestLine + traceBytes ≤ n → stageEnded traced (replicate n 0) s ≡ stageAtEnd s
+unfolding stageEnded endFits
+end-fits traced n s h = rw (not-full (itemsAtEnd s)) refl
+  where
+    not-full : (items : List Item) → full traced (length {A = ℕ} (replicate n 0)) 0 items ≡ false
+    not-full [] = refl
+    not-full (item ∷ rest) =
+        rw (length-replicate {A = ℕ} n 0) (le-ltb n (0 + mostFor traced) (omega (arith, most-fits traced, h)))

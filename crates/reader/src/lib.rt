@@ -8,15 +8,25 @@ use libc::STDIN_FILENO;
 use libc::STDOUT_FILENO;
 use lines::LONGEST_LINE;
 ghost use mathlib.Core.Path.{_≡_};
-ghost use mathlib.Core.Bool.{true};
 ghost use lib.ListN.{replicate};
-ghost use Rattle.intake.specs.Input.{stageOf, itemsOf, roomOf, benchRoom};
-ghost use Rattle.intake.specs.Reader.{readerBytes, stageIn};
+ghost use Rattle.intake.specs.Input.{stageAtEnd, benchRoom};
+ghost use Rattle.intake.specs.Reader.{readerBytes, stageIn, readerOf};
+ghost use Rattle.reader.specs.Turns.{GoesOn, TakenBy, ReadBy, Turned, mostTurns};
 
 // how many bytes are read at once, and room for the lines of many items
 const READ: usize = 4096;
 
 const PRINTED: usize = 16 * (LONGEST_LINE + TRACE);
+
+// Whether the program goes on, and if not why: the input has ended for the reader, by a byte that is no kind byte; standard input has ended;
+// a read failed; a write failed.
+enum Course {
+    More,
+    Over,
+    Finished,
+    Unread,
+    Unwritten,
+}
 
 // Bytes for standard output: whether they could be written. Where they could not, a line on standard error says so.
 fn print(bytes: &[u8]) -> bool {
@@ -27,10 +37,10 @@ fn print(bytes: &[u8]) -> bool {
     false
 }
 
-// What was read: offered until all of it is taken. Whether the program goes on: not where the input has ended or a write fails.
-fn take(reader: &mut [u8; READER], room: &mut [u8], bytes: &[u8], traced: bool) -> bool
-    ensures { λ r. ⌜ (r ≡ true → (stageIn (now (reader .exit)) ≡ stageOf (stageIn (now (reader .entry))) (now (bytes .entry)))
-        × (now (room .exit) ≡ roomOf (now (room .entry)) (itemsOf (stageIn (now (reader .entry))) (now (bytes .entry))))) ⌝ }
+// What was read: offered until all of it is taken or the input has ended.
+fn take(reader: &mut [u8; READER], room: &mut [u8], bytes: &[u8], traced: bool) -> Course
+    requires { ⌜ GoesOn (now reader) ⌝ }
+    ensures { λ r. ⌜ TakenBy r (now (reader .entry)) (now (room .entry)) (now (bytes .entry)) (now (reader .exit)) (now (room .exit)) ⌝ }
 {
     let mut out = [0u8; PRINTED];
     let mut at = 0;
@@ -38,53 +48,75 @@ fn take(reader: &mut [u8; READER], room: &mut [u8], bytes: &[u8], traced: bool) 
         let heard = intake::part(reader, room, &bytes[at..], &mut out, traced);
         let said = heard.said;
         if !print(&out[..said]) {
-            return false;
+            return Course::Unwritten;
         }
         if heard.number != 0 {
-            return false;
+            return Course::Over;
         }
         at += heard.took;
     }
-    true
+    Course::More
 }
 
-// The end of standard input.
-fn finish(reader: &mut [u8; READER], room: &[u8], traced: bool) {
+// The end of standard input: said to the reader, with room for its line.
+fn finish(reader: &mut [u8; READER], room: &[u8], traced: bool)
+    ensures { λ _. ⌜ now (reader .exit) ≡ readerOf (stageAtEnd (stageIn (now (reader .entry)))) ⌝ }
+{
     let mut out = [0u8; PRINTED];
     let closed = intake::end(reader, room, &mut out, traced);
     let said = closed.said;
     print(&out[..said]);
 }
 
-// One read of standard input: whether the program goes on. A read that brings nothing is the end of the input, and no part of it; one that
-// fails stops the program with a line on standard error.
-fn turn(reader: &mut [u8; READER], room: &mut [u8], traced: bool) -> bool {
+// What a read of standard input came to: it failed, or it brought these bytes. None is the end of the input, and no part of it; a read that
+// failed stops the program with a line on standard error.
+fn hear(
+    reader: &mut [u8; READER],
+    room: &mut [u8],
+    failed: bool,
+    bytes: &[u8],
+    traced: bool,
+) -> Course
+    requires { ⌜ GoesOn (now reader) ⌝ }
+    ensures { λ r. ⌜ ReadBy r failed (now (reader .entry)) (now (room .entry)) (now (bytes .entry)) (now (reader .exit)) (now (room .exit)) ⌝ }
+{
+    if failed {
+        io::write_all(STDERR_FILENO, b"cannot read standard input\n");
+        return Course::Unread;
+    }
+    if bytes.len() == 0 {
+        finish(reader, room, traced);
+        return Course::Finished;
+    }
+    take(reader, room, bytes, traced)
+}
+
+// One read of standard input.
+fn turn(reader: &mut [u8; READER], room: &mut [u8], traced: bool) -> Course
+    requires { ⌜ GoesOn (now reader) ⌝ }
+    ensures { λ r. ⌜ Turned r 1 (now (reader .entry)) (now (room .entry)) (now (reader .exit)) (now (room .exit)) ⌝ }
+{
     let mut bytes = [0u8; READ];
     let got = libc::read(STDIN_FILENO, &mut bytes);
-    if got < 0 {
-        io::write_all(STDERR_FILENO, b"cannot read standard input\n");
-        return false;
-    }
     let n = io::count(got, &bytes);
-    if n == 0 {
-        finish(reader, room, traced);
-        return false;
-    }
-    take(reader, room, &bytes[..n], traced)
+    hear(reader, room, got < 0, &bytes[..n], traced)
 }
 
 // The program on the state and the room that it starts with. A proved loop has to end, and nothing says that an input does: it counts its
 // turns down, from a number that no run uses up.
-fn run_on(reader: &mut [u8; READER], room: &mut [u8], traced: bool)
+fn run_on(reader: &mut [u8; READER], room: &mut [u8], traced: bool) -> Course
     requires { ⌜ (now reader ≡ replicate readerBytes 0) × (now room ≡ replicate benchRoom 0) ⌝ }
+    ensures { λ r. ⌜ Turned r mostTurns (now (reader .entry)) (now (room .entry)) (now (reader .exit)) (now (room .exit)) ⌝ }
 {
     let mut turns = u64::MAX;
     while turns > 0 {
-        if !turn(reader, room, traced) {
-            return;
-        }
+        let came = turn(reader, room, traced);
+        let Course::More = came else {
+            return came;
+        };
         turns -= 1;
     }
+    Course::More
 }
 
 // The program: standard input to standard output, on a room for the largest store that is zero at the start.

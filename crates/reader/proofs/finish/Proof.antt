@@ -1,7 +1,12 @@
--- `finish`: what is printed lies within the output.
+-- `finish`: the output takes the line of the end, so that the end is taken.
 use native.Mathlib.Omega.{arith}
-use mathlib.Core.Path.{sym}
+use mathlib.Core.Path.{sym, ap, _∙_}
 use lib.Seq.{length-take-le}
+use Prim.Native.Nat.{_+_, _*_}
+use Rattle.lines.specs.Lines.{longestLine}
+use Rattle.intake.specs.Input.{traceBytes}
+use Rattle.intake.specs.Reader.{readerOf}
+use Rattle.reader.proofs.Offered.{end-fits}
 use borrow.Author.Needs.{needs}
 use Rattle.reader.proofs.finish.Statement.{statement}
 use Rattle.reader.proofs.finish.Tie as tie
@@ -24,7 +29,9 @@ print-requires : tie.Need-print-requires
 print-requires c κs = search needs
 
 returns : tie.Need-returns
-returns c = search needs
+returns c =
+    let end = c .before .before .before .end in
+    end .ensures .0 ∙ ap readerOf (end-fits _ (16 * (longestLine + traceBytes)) _ (omega arith))
 
 pub finish-spec : {M : Type 1} → statement M
 finish-spec =

@@ -1,23 +1,24 @@
--- `take`: what is left is offered again and again, and each time less is left.
+-- `take`: what is left is offered again and again, and each time less is left; while the reader goes on its number is 0.
 use native.Mathlib.Omega.{arith}
 use mathlib.Core.Path.{_≡_, refl, sym, _∙_}
-use Prim.Native.Nat.{ℕ, _-_}
+use Prim.Native.Nat.{_-_}
 use lib.ListN.{length}
 use lib.Seq.{length-take-le}
-use Rattle.reader.proofs.Offered.{OfferSofar, offer-begun, fits, some, offer-more, all-taken}
+use Rattle.reader.proofs.Offered.{OfferSofar, offer-begun, fits, some, offer-more, offer-some, on, over, all-taken}
+use Rattle.reader.specs.Turns.{GoesOn}
 use borrow.Author.Needs.{needs}
 use Rattle.reader.proofs.take.Statement.{statement}
 use Rattle.reader.proofs.take.Tie as tie
 
 abbrev Inv-loop : tie.InvT-loop
 Inv-loop reader₀ room₀ bytes traced out₀ at₀ reader room out at =
-    ((length room ≡ length room₀) × (length out ≡ length out₀)) × OfferSofar reader₀ room₀ bytes reader room at
+    ((length room ≡ length room₀) × (length out ≡ length out₀)) × (OfferSofar reader₀ room₀ bytes reader room at × GoesOn reader)
 
 abbrev μ-loop : tie.MeasureT-loop
 μ-loop reader₀ room₀ bytes traced out₀ at₀ reader room out at = length bytes - at
 
 loop-holds : tie.Need-loop-holds Inv-loop μ-loop
-loop-holds c = ((refl, refl), offer-begun _ _ _)
+loop-holds c = ((refl, refl), (offer-begun _ _ _, c .before .before .pre))
 
 sub-part : tie.Need-sub-part Inv-loop μ-loop
 sub-part c = omega arith
@@ -52,19 +53,28 @@ same-length : tie.Need-same-length Inv-loop μ-loop
 same-length c = search needs
 
 returns : tie.Need-returns Inv-loop μ-loop
-returns c = λ e. absurd (let z : _≡_ {A = ℕ} 0 1 = cc in omega arith)
+returns c =
+    let part = c .before .before .before .before .before .before in
+    let h = part .before .before .before .before .before .before .loop in
+    let t = part .part .ensures in
+    offer-some _ _ _ _ _ _ (h .inv .1 .0) _ _ _ _ _ _ _ (t .0) (t .1 .0)
 
 same-length-2 : tie.Need-same-length-2 Inv-loop μ-loop
 same-length-2 c = search needs
 
 returns-2 : tie.Need-returns-2 Inv-loop μ-loop
-returns-2 c = λ e. absurd (let z : _≡_ {A = ℕ} 0 1 = cc in omega arith)
+returns-2 c =
+    let part = c .before .before .before .before .before .before .before .before in
+    let h = part .before .before .before .before .before .before .loop in
+    let t = part .part .ensures in
+    over _ _ _ _ _ _ (h .inv .1 .0) _ _ _ _ _ _ _ (t .0) (t .1 .0) _ (t .1 .1) (c .if2 .taken)
 
 add-at : tie.Need-add-at Inv-loop μ-loop
 add-at c =
     let part = c .before .before .before .before .before .before .before .before .before in
     let h = part .before .before .before .before .before .before .loop in
-    omega (arith, fits _ _ _ _ _ _ (h .inv .1) _ _ (part .part .last .0) _ _ _ _ (part .part .ensures .0))
+    let low = fits _ _ _ _ _ _ (h .inv .1 .0) _ _ (part .part .last .0) _ _ _ _ (part .part .ensures .0) in
+    omega (arith, low, part .before .before .before .before .before .before .before .before .before .good .1 .1 .0 .0)
 
 loop-less : tie.Need-loop-less Inv-loop μ-loop
 loop-less c =
@@ -72,8 +82,8 @@ loop-less c =
     let test = part .before .before .before .before .before in
     let h = test .before .loop in
     let t = part .part .ensures .0 in
-    let some = some _ _ _ _ _ _ (h .inv .1) _ _ (part .part .last .0) _ _ _ _ t (test .loop-test .taken) (omega (arith, h .inv .0 .1)) in
-    omega (arith, some, fits _ _ _ _ _ _ (h .inv .1) _ _ (part .part .last .0) _ _ _ _ t)
+    let some = some _ _ _ _ _ _ (h .inv .1 .0) _ _ (part .part .last .0) _ _ _ _ t (test .loop-test .taken) (omega (arith, h .inv .0 .1)) in
+    omega (arith, some, fits _ _ _ _ _ _ (h .inv .1 .0) _ _ (part .part .last .0) _ _ _ _ t)
 
 loop-again : tie.Need-loop-again Inv-loop μ-loop
 loop-again c =
@@ -81,7 +91,10 @@ loop-again c =
     let h = part .before .before .before .before .before .before .loop in
     let t = part .part .ensures in (
       (part .part .kept .1 .0 ∙ h .inv .0 .0, part .part .kept .1 .1 .1 .0 ∙ h .inv .0 .1),
-      offer-more _ _ _ _ _ _ (h .inv .1) _ _ _ _ _ _ _ (t .0) (t .1 .0),
+      (
+        offer-more _ _ _ _ _ _ (h .inv .1 .0) _ _ _ _ _ _ _ (t .0) (t .1 .0),
+        on _ _ _ _ _ _ (h .inv .1 .0) _ _ _ _ _ _ _ (t .0) (t .1 .0) _ (t .1 .1) (c .before .if2 .left),
+      ),
     )
 
 same-length-3 : tie.Need-same-length-3 Inv-loop μ-loop
@@ -90,7 +103,7 @@ same-length-3 c = c .before .loop .inv .0 .0
 returns-3 : tie.Need-returns-3 Inv-loop μ-loop
 returns-3 c =
     let h = c .before .loop in
-    λ e. all-taken _ _ _ _ _ (h .at) (h .inv .1) (c .loop-test .left)
+    (all-taken _ _ _ _ _ (h .at) (h .inv .1 .0) (c .loop-test .left), h .inv .1 .1)
 
 pub take-spec : {M : Type 1} → statement M
 take-spec =
