@@ -8,7 +8,7 @@ use Prim.Native.Nat.{ℕ, _+_, _≤_}
 use lib.ListN.{length, take, drop, replicate, take-append-drop, length-append}
 use types.Run.{OneOf}
 use denote.Enum.Declared.{tagOf}
-use Rattle.intake.specs.Input.{Item, Stage, going, ended, stageOf, itemsOf, stageAtEnd, roomOf}
+use Rattle.intake.specs.Input.{Stage, going, ended, stageOf, itemsOf, stageAtEnd, roomOf}
 use Rattle.intake.specs.Reader.{readerBytes, stageIn, readerOf, stageNumber}
 use Rattle.intake.proofs.Along.{stages, items, rooms, stages-ended, items-ended}
 use Rattle.intake.proofs.State.{stage-back}
@@ -16,7 +16,7 @@ use Rattle.intake.proofs.Examples.{zeros}
 use Rattle.reader.proofs.Course.{the-type}
 use Rattle.reader.specs.declared.Course.{Course}
 use Rattle.reader.specs.declared.Course.the-variants.{More, Over, Finished, Unread, Unwritten}
-use Rattle.reader.specs.Turns.{HeardAll, HeardSome, HeardToEnd, GoesOn, TakenBy, ReadBy, TurnedBy, Turned}
+use Rattle.reader.specs.Turns.{HeardAll, HeardToEnd, GoesOn, TakenBy, ReadBy, Turned}
 
 pub heard-none : (reader room : List ℕ) → HeardAll reader room [] reader room
 unfolding stageOf itemsOf roomOf
