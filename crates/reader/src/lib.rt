@@ -120,7 +120,7 @@ fn run_on(reader: &mut [u8; READER], room: &mut [u8], traced: bool) -> Course
 }
 
 // The program: standard input to standard output, on a room for the largest store that is zero at the start.
-// It ends, and hands nothing back: what it writes is the promise of `intake`.
+// It ends, and hands nothing back: what it is to write is the promise of `intake`, and why it stops that of `run_on`.
 pub fn run(traced: bool)
     ensures { λ r. ⌜ r ≡ tt ⌝ }
 {
