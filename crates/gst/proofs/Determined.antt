@@ -11,8 +11,6 @@ use Rattle.gst.proofs.not_a_start.Reads as not-a-start-reads
 use Rattle.gst.proofs.not_a_start.Kinds as not-a-start-kinds
 use Rattle.gst.proofs.subframe_at.Reads as subframe-at-reads
 use Rattle.gst.proofs.subframe_at.Kinds as subframe-at-kinds
-use Rattle.gst.proofs.start_of.Reads as start-of-reads
-use Rattle.gst.proofs.start_of.Kinds as start-of-kinds
 use Rattle.gst.proofs.Gst.add_seconds.Reads as add-seconds-reads
 use Rattle.gst.proofs.Gst.add_seconds.Kinds as add-seconds-kinds
 use Rattle.gst.proofs.Gst.add_subframes.Reads as add-subframes-reads
@@ -60,14 +58,6 @@ pub subframe-at-determined :
     (e e' : AtExit (endedOf 0 subframe-at-kinds.ps subframe-at-kinds.r) κs)
     → subframe-at-reads.Post κs a r e → subframe-at-reads.Post κs a r' e' → r ≡ r'
 subframe-at-determined κs a r r' e e' p q = p ∙ sym q
-
-pub start-of-determined :
-    (κs : Lfts 0)
-    (a : Dens κs start-of-kinds.ps)
-    (r r' : resT start-of-kinds.r κs .Denot)
-    (e e' : AtExit (endedOf 0 start-of-kinds.ps start-of-kinds.r) κs)
-    → start-of-reads.Post κs a r e → start-of-reads.Post κs a r' e' → r ≡ r'
-start-of-determined κs a r r' e e' p q = p ∙ sym q
 
 pub add-seconds-determined :
     (κs : Lfts 0)

@@ -43,8 +43,8 @@ returns-2 c =
 subframe-at-requires : tie.Need-subframe-at-requires
 subframe-at-requires c κs = search needs
 
-start-of-requires : tie.Need-start-of-requires
-start-of-requires c κs = search needs
+mul-after : tie.Need-mul-after
+mul-after c = search needs
 
 after-requires : tie.Need-after-requires
 after-requires c κs = search needs
@@ -60,15 +60,15 @@ enum-told c = search needs
 
 -- the sign of what the difference says is the answer
 by-sign : (c : tie.After-after) (a : Apart) → c .after .result ≡ a
-    → let args = c .before .before .before .before .before .before .before .before .before .before .args in
+    → let args = c .before .before .before .before .before .before .before .before .before .args in
     not (nonNeg (subframesOf (apartAnswer a))) ≡ comesEarlier (args .gst .wn .0) (startOf (args .gst .tow .0)) (args .room .now)
 by-sign c a told =
-    let test = c .before .before .before in
+    let test = c .before .before in
     let marked = test .before in
     let row = marked .before in
     let timed = row .before .before in
     let room = timed .before .before .before .args .room .now in
-    let apart = rw (c .before .start-of .ensures, c .before .before .subframe-at .ensures) at (c .after .ensures) in
+    let apart = rw (c .before .subframe-at .ensures) at (c .after .ensures) in
     marked-earlier _ _ room (row .row .result .now) (row .row .ensures .0 ∙ ap (λ r. rowOf r room) (row .before .current .ensures .0))
     (sym (timed .before .by-time .ensures) ∙ not-false _ (timed .if1 .left))
     (subframesOf (apartAnswer a)) (ap subframesOf (ap apartAnswer (sym told) ∙ apart))
@@ -94,7 +94,7 @@ comes-earlier-spec =
     is-marked-requires
     returns-2
     subframe-at-requires
-    start-of-requires
+    mul-after
     after-requires
     enum-known-subframes
     below-zero-requires

@@ -16,15 +16,14 @@ returns c = simp (sym (c .before .tow-too-large .ensures) ∙ ap not (c .if1 .ta
 subframe-at-requires : tie.Need-subframe-at-requires
 subframe-at-requires c κs = search needs
 
-start-of-requires : tie.Need-start-of-requires
-start-of-requires c κs = search needs
+mul-t6 : tie.Need-mul-t6
+mul-t6 c = search needs
 
 returns-2 : tie.Need-returns-2
 unfolding subframeOf
 returns-2 c =
-    let number = c .before in
-    let time = number .before in
-    simp (sym (time .before .tow-too-large .ensures) ∙ ap not (time .if1 .left), c .start-of .ensures, number .subframe-at .ensures)
+    let time = c .before in
+    simp (sym (time .before .tow-too-large .ensures) ∙ ap not (time .if1 .left), c .subframe-at .ensures)
 
 pub gst-subframe-spec : {M : Type 1} → statement M
-gst-subframe-spec = tie.close (tie.spec tow-too-large-requires returns subframe-at-requires start-of-requires returns-2)
+gst-subframe-spec = tie.close (tie.spec tow-too-large-requires returns subframe-at-requires mul-t6 returns-2)
