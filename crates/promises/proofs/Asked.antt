@@ -24,7 +24,7 @@ use Rattle.history.proofs.Demand.{asked-behind}
 use Rattle.orbit.specs.Numbers.{orbitFrom, timingFrom}
 use Rattle.orbit.proofs.Places.{as-asked}
 use Rattle.ffi_orbit.specs.Handed.{orbitIn, timingIn}
-use Rattle.promises.specs.Outcomes.{HandedOut, cedAsking, timingAsking, cCedAsking, cTimingAsking, askedBy}
+use Rattle.promises.specs.Outcomes.{HandedOut, OneAsking, cedAsking, timingAsking, cCedAsking, cTimingAsking, askedBy}
 use Rattle.promises.specs.Outcomes.{orbitAsking, cOrbitAsking, orbitBy, numbersAsking, cNumbersAsking, numbersBy}
 use Rattle.promises.specs.Covered.{Covered, tagsOf}
 use Rattle.promises.specs.Statements.{AskedOn, EarnedBy, AskedOfTheCode, NumbersEarned, OrbitOfTheCode, TimingOfTheCode}
@@ -82,15 +82,20 @@ module _ {A : Type 0} (now : List ℕ) (covered : Covered now) (out : HandedOut 
       (c ∙ ap firstOf said)
       (b ∙ ap (askData f sat) (answered .lent) ∙ whole-slice f sat now k (answered .inside) number-0)
 
+-- the data shown of one room for one satellite
+shown-data : (f : Family) {room shownRoom : List ℕ} {sat shownSat : ℕ} → OneAsking room shownRoom sat shownSat
+    → askData f shownSat shownRoom ≡ askData f sat room
+shown-data f one = rw (one .rooms, one .satellites)
+
 pub asked-of-the-code : AskedOfTheCode
 asked-of-the-code now covered (cedAsking a) e =
     let q = a .count .permitted in
     asked-earned now covered (askedBy (cedAsking a)) e (a .shown .answer .now) (ap number q) (ap firstOf q)
-    (a .shown .permitted ∙ ap (λ (s : ℕ). askData CED s (a .shown .arguments .0 .now)) (a .satellite) ∙ ap (askData CED (a .count .arguments .1 .0 .0)) (a .room))
+    (a .shown .permitted ∙ shown-data CED (a .one))
 asked-of-the-code now covered (timingAsking a) e =
     let q = a .count .permitted in
     asked-earned now covered (askedBy (timingAsking a)) e (a .shown .answer .now) (ap number q) (ap firstOf q)
-    (a .shown .permitted ∙ ap (λ (s : ℕ). askData Timing s (a .shown .arguments .0 .now)) (a .satellite) ∙ ap (askData Timing (a .count .arguments .1 .0 .0)) (a .room))
+    (a .shown .permitted ∙ shown-data Timing (a .one))
 asked-of-the-code now covered (cCedAsking o) e =
     let q = o .permitted .0 in
     asked-earned now covered (askedBy (cCedAsking o)) e (askedBy (cCedAsking o) .given) (ap (λ x. x .number) q) (ap (λ x. x .authbits) q) (o .permitted .1)

@@ -250,29 +250,25 @@ deedsOf (cPartDid o) =
     heardCalls (reader .now) (take (o .answer .took) (bytes .now)) (room .now) (left .now)
 
 -- ---- what asks: by the two functions of a family, on one room for one satellite, or by its export for C
+pub record OneAsking (room shownRoom : List ℕ) (sat shownSat : ℕ) : Type 0 where
+  pub rooms : shownRoom ≡ room
+  pub satellites : shownSat ≡ sat
+
 pub record CedAsked : Type 0 where
   pub count : GetCedRan
   pub shown : CedDataRan
-  pub room :
+  pub one :
       let (room, (svn, _)) = count .arguments in
       let (shownRoom, (shownSvn, _)) = shown .arguments in
-      shownRoom .now ≡ room .now
-  pub satellite :
-      let (room, (svn, _)) = count .arguments in
-      let (shownRoom, (shownSvn, _)) = shown .arguments in
-      shownSvn .0 ≡ svn .0
+      OneAsking (room .now) (shownRoom .now) (svn .0) (shownSvn .0)
 
 pub record TimingAsked : Type 0 where
   pub count : GetTimingRan
   pub shown : TimingDataRan
-  pub room :
+  pub one :
       let (room, (svn, _)) = count .arguments in
       let (shownRoom, (shownSvn, _)) = shown .arguments in
-      shownRoom .now ≡ room .now
-  pub satellite :
-      let (room, (svn, _)) = count .arguments in
-      let (shownRoom, (shownSvn, _)) = shown .arguments in
-      shownSvn .0 ≡ svn .0
+      OneAsking (room .now) (shownRoom .now) (svn .0) (shownSvn .0)
 
 pub data Asking : Type 0 where
   cedAsking : CedAsked → Asking
