@@ -1,5 +1,7 @@
 // Bytes as wider numbers, and big-endian ones (STORE 7.2): two and four bytes of a slice, read and written. A read is one sum, so that it
 // becomes one load.
+#![tactic(auto)]
+
 ghost use Rattle.std.specs.Prelude.{◌≡◌, ◌+◌, ◌≤◌, ◌<◌, length};
 ghost use Rattle.paper.specs.Big.{be16, be32, put16, put32};
 
@@ -31,6 +33,7 @@ fn widened(n: u16) -> u32
 }
 
 // The number in the two bytes at `at`.
+#[tactic(auto, unfolding(paper::specs::Big::be16))]
 pub fn read16(s: &[u8], at: usize) -> u16
     requires { at + 2 ≤ length s.now }
     ensures { result ≡ be16 s.now at }
@@ -39,6 +42,7 @@ pub fn read16(s: &[u8], at: usize) -> u16
 }
 
 // The number in the four bytes at `at`.
+#[tactic(auto, unfolding(paper::specs::Big::be32))]
 pub fn read32(s: &[u8], at: usize) -> u32
     requires { at + 4 ≤ length s.now }
     ensures { result ≡ be32 s.now at }
@@ -47,6 +51,7 @@ pub fn read32(s: &[u8], at: usize) -> u32
 }
 
 // x into the two bytes at `at`.
+#[tactic(auto, unfolding(paper::specs::Big::put16))]
 pub fn write16(s: &mut [u8], at: usize, x: u16)
     requires { at + 2 ≤ length s.old }
     ensures { s.new ≡ put16 s.old at x }
@@ -56,6 +61,7 @@ pub fn write16(s: &mut [u8], at: usize, x: u16)
 }
 
 // x into the four bytes at `at`.
+#[tactic(auto, unfolding(paper::specs::Big::put32))]
 pub fn write32(s: &mut [u8], at: usize, x: u32)
     requires { at + 4 ≤ length s.old }
     ensures { s.new ≡ put32 s.old at x }

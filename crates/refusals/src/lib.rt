@@ -1,4 +1,6 @@
 // STORE 14: why a call refuses, and the reply of a call that has no values beside its number. Every number stands here, and only here.
+#![tactic(auto)]
+
 ghost use Rattle.std.specs.Prelude.{◌≡◌, ◌<◌};
 ghost use Rattle.refusals.specs.Reply.{refusal_number};
 

@@ -83,4 +83,4 @@ size_sum (negsuc a) (negsuc b) = omega arith
 
 -- an i32 as an i64 is the same number
 pub widened : (x : ℤ) → SFits w32 x → to_z w64 (of_z w64 x) ≡ x
-widened x f = to_z-of_z (sfits_widen {w = w32} tt f)
+widened x f = to_z-of_z {w = w64} (sfits_widen {w = w32} tt f)

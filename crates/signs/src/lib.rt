@@ -1,4 +1,6 @@
 // Signed numbers: whether one is below 0, one without its sign, and the one that 32 bits are.
+#![tactic(auto)]
+
 ghost use Rattle.std.specs.Prelude.{◌≡◌, not, nat_abs};
 ghost use Rattle.std.specs.Int.Signed.{non_neg};
 ghost use Rattle.signs.specs.Signs.{twos_complement};
@@ -22,6 +24,7 @@ pub fn size(n: i32) -> u32
 }
 
 // The number that four bytes are in two's complement.
+#[tactic(auto, unfolding(crate::specs::Signs::twos_complement))]
 pub fn of_bits(x: u32) -> i32
     ensures { result ≡ twos_complement x }
 {

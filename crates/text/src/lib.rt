@@ -1,4 +1,6 @@
 // Text written into lent bytes at a place: letters, decimal numbers and lower-case hex. Each call answers the place behind its text.
+#![tactic(auto)]
+
 ghost use Rattle.std.specs.Prelude.{◌≡◌, ◌+◌, ◌*◌, ◌≤◌, ◌<◌, length};
 ghost use Rattle.text.specs.Text.{Put, most_digits, decimal, hex_digit, hex_of, hex32};
 
@@ -60,6 +62,7 @@ pub fn put_hex(out: &mut [u8], at: usize, bytes: &[u8]) -> usize
 }
 
 // A number in hex, eight digits.
+#[tactic(auto, unfolding(crate::specs::Text::hex32))]
 pub fn put_hex32(out: &mut [u8], at: usize, x: u32) -> usize
     requires { at + 8 ≤ length out.old }
     ensures { Put out.old at (hex32 x) out.new result }
