@@ -1,4 +1,6 @@
 // Adler-32 of bytes (RFC 1950), by which two rooms are compared.
+#![tactic(auto)]
+
 ghost use Rattle.std.specs.Prelude.{◌≡◌, ◌+◌, ◌%◌, ◌<◌};
 ghost use Rattle.adler.specs.Adler.{adler_prime, adler_of};
 

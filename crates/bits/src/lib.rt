@@ -1,5 +1,7 @@
 // Bits of bytes, from the top bit of the first byte on (STORE 5.1): a move of bits that goes byte by byte and ensures what
 // the bit-by-bit definition says.
+#![tactic(auto)]
+
 ghost use Rattle.std.specs.Prelude.{◌≡◌, true, cond, ◌+◌, ◌-◌, ◌*◌, ◌/◌, ◌%◌, ◌^◌, ◌≤◌, ◌<◌, min, eqb, length, get_or, set};
 ghost use Rattle.paper.specs.Bits.{spliced, moved, changed};
 ghost use Rattle.bits.specs.Field.{field_of};
@@ -69,6 +71,7 @@ fn move_byte(d: &mut [u8], i: usize, w: &[u8], j: usize, r: usize, hit: bool) ->
 }
 
 // A move to whole bytes of d, from byte i on. Behind the last of its bits w has one more, so that two bytes can always be read.
+#[tactic(auto, unfolding(paper::specs::Bits::moved, paper::specs::Bits::changed))]
 fn move_bytes(d: &mut [u8], i: usize, w: &[u8], from: usize, count: usize, before: bool) -> bool
     requires { (i + count ≤ length d.old) × (from + 8 * count < 8 * length w.now) }
     ensures { (d.new ≡ moved d.old (8 * i) w.now from (8 * count))

@@ -1,4 +1,6 @@
 // A field's whole number times 2^-k as a double (STORE 20.4). Both factors are doubles, and so is the product: nothing is rounded.
+#![tactic(auto)]
+
 ghost use Rattle.std.specs.Prelude.{◌≡◌, ◌<◌, pos};
 ghost use Rattle.paper.specs.Double.{double};
 

@@ -1,5 +1,7 @@
 // The fields of the words as whole numbers (STORE 20.1 to 20.3), read from a record's data or from a word: a word's fields stand one behind
 // the other from where they start. Past the end of the bytes every bit is 0.
+#![tactic(auto)]
+
 ghost use Rattle.std.specs.Prelude.{◌≡◌, ◌+◌, ◌*◌, ◌^◌, ◌≤◌, ◌<◌, get_or};
 ghost use Rattle.paper.specs.Field.{signed as twos, value_of, fields_of, bits_at, numbers_at};
 ghost use Rattle.fields.specs.Words.{word1_from, word2_from, word3_from, word4_from, word5_from, word6_from, word10_from};
@@ -332,6 +334,7 @@ pub fn signed(s: &[u8], o: usize, w: usize) -> i32
 }
 
 // The fields of a word of type 1 that start at bit `at`.
+#[tactic(auto, unfolding(crate::specs::Words::word1_from, paper::specs::Field::named, paper::specs::Field::numbers_at, paper::specs::Field::fields_in, paper::specs::Field::layouts))]
 pub fn read_word1(s: &[u8], at: usize) -> Word1
     requires { at ≤ 65000 }
     ensures { result ≡ word1_from (numbers_at s.now at (fields_of 1)) }
@@ -350,6 +353,7 @@ pub fn read_word1(s: &[u8], at: usize) -> Word1
 }
 
 // The fields of a word of type 2 that start at bit `at`.
+#[tactic(auto, unfolding(crate::specs::Words::word2_from, paper::specs::Field::named, paper::specs::Field::numbers_at, paper::specs::Field::fields_in, paper::specs::Field::layouts))]
 pub fn read_word2(s: &[u8], at: usize) -> Word2
     requires { at ≤ 65000 }
     ensures { result ≡ word2_from (numbers_at s.now at (fields_of 2)) }
@@ -368,6 +372,7 @@ pub fn read_word2(s: &[u8], at: usize) -> Word2
 }
 
 // The fields of a word of type 3 that start at bit `at`.
+#[tactic(auto, unfolding(crate::specs::Words::word3_from, paper::specs::Field::named, paper::specs::Field::numbers_at, paper::specs::Field::fields_in, paper::specs::Field::layouts))]
 pub fn read_word3(s: &[u8], at: usize) -> Word3
     requires { at ≤ 65000 }
     ensures { result ≡ word3_from (numbers_at s.now at (fields_of 3)) }
@@ -392,6 +397,7 @@ pub fn read_word3(s: &[u8], at: usize) -> Word3
 }
 
 // The fields of a word of type 4 that start at bit `at`.
+#[tactic(auto, unfolding(crate::specs::Words::word4_from, paper::specs::Field::named, paper::specs::Field::numbers_at, paper::specs::Field::fields_in, paper::specs::Field::layouts))]
 pub fn read_word4(s: &[u8], at: usize) -> Word4
     requires { at ≤ 65000 }
     ensures { result ≡ word4_from (numbers_at s.now at (fields_of 4)) }
@@ -416,6 +422,7 @@ pub fn read_word4(s: &[u8], at: usize) -> Word4
 }
 
 // The fields of a word of type 5 that start at bit `at`.
+#[tactic(auto, unfolding(crate::specs::Words::word5_from, paper::specs::Field::named, paper::specs::Field::numbers_at, paper::specs::Field::fields_in, paper::specs::Field::layouts))]
 pub fn read_word5(s: &[u8], at: usize) -> Word5
     requires { at ≤ 65000 }
     ensures { result ≡ word5_from (numbers_at s.now at (fields_of 5)) }
@@ -452,6 +459,7 @@ pub fn read_word5(s: &[u8], at: usize) -> Word5
 }
 
 // The fields of a word of type 6 that start at bit `at`.
+#[tactic(auto, unfolding(crate::specs::Words::word6_from, paper::specs::Field::named, paper::specs::Field::numbers_at, paper::specs::Field::fields_in, paper::specs::Field::layouts))]
 pub fn read_word6(s: &[u8], at: usize) -> Word6
     requires { at ≤ 65000 }
     ensures { result ≡ word6_from (numbers_at s.now at (fields_of 6)) }
@@ -476,6 +484,7 @@ pub fn read_word6(s: &[u8], at: usize) -> Word6
 }
 
 // The fields of a word of type 10 that start at bit `at`.
+#[tactic(auto, unfolding(crate::specs::Words::word10_from, paper::specs::Field::named, paper::specs::Field::numbers_at, paper::specs::Field::fields_in, paper::specs::Field::layouts))]
 pub fn read_word10(s: &[u8], at: usize) -> Word10
     requires { at ≤ 65000 }
     ensures { result ≡ word10_from (numbers_at s.now at (fields_of 10)) }

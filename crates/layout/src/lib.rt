@@ -1,5 +1,7 @@
 // The lent room, once for all code (a record's fields and sizes are its family's own): a header, then rows of a head and N slots, a slot
 // being one CED record and behind it one timing record. Each field starts behind the one before it.
+#![tactic(auto)]
+
 ghost use Rattle.std.specs.Prelude.{◌≡◌};
 ghost use Rattle.paper.specs.Record.{family_if};
 ghost use Rattle.paper.specs.Room.{base};

@@ -1,4 +1,6 @@
 // Which numbers a call takes: the sizes of a store, and the numbers that come with a tag. Each test is of its numbers alone.
+#![tactic(auto)]
+
 ghost use Rattle.std.specs.Prelude.{◌≡◌, not, ◌&&◌, leb};
 ghost use Rattle.paper.specs.Store.{sizes_allowed, rule_known};
 ghost use Rattle.paper.specs.Tag.{kind_known, cop_allowed, length_allowed, status_known, status_adds};
@@ -79,6 +81,7 @@ pub fn cop_allowed(cop: u8) -> bool
 }
 
 // STORE 11.1: the lengths
+#[tactic(auto, unfolding(paper::specs::Tag::length_allowed))]
 pub fn length_allowed(bits: u8) -> bool
     ensures { result ≡ length_allowed bits }
 {

@@ -1,5 +1,7 @@
 // The two families of records with their sizes, where the fields of a record start, and its ages, which travel as a small array by value.
 // What is done to ages is written once, over any number of them.
+#![tactic(auto)]
+
 ghost use Rattle.std.specs.Prelude.{◌≡◌, map, max, min, length};
 ghost use Rattle.paper.specs.Record.{CED, Timing as TIMING, family_if, size, data_at, data_bytes, ages_of, with_ages, older, greatest, least};
 

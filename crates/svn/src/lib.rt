@@ -1,4 +1,6 @@
 // Satellites of the Galileo system, and how they are written (STORE 4).
+#![tactic(auto)]
+
 ghost use Rattle.std.specs.Prelude.{◌≡◌};
 ghost use Rattle.svn.specs.Answer.{satellite_answer};
 ghost use Rattle.paper.specs.Satellite.{is_satellite, satellite_of, letters_of};
@@ -19,6 +21,7 @@ pub enum Satellite {
 
 impl Svn {
     // The satellite of a number: 4.
+    #[tactic(auto, unfolding(paper::specs::Satellite::satellite_of))]
     pub fn try_from(number: u8) -> Satellite
         ensures { satellite_answer result ≡ satellite_of number }
     {
@@ -41,6 +44,7 @@ impl Svn {
     }
 
     // E01 to E36. A number that is no satellite's, 0 or 37 to 255, is written by the same rule: E and its last two digits.
+    #[tactic(auto, unfolding(paper::specs::Satellite::letters_of))]
     pub fn letters(self) -> [u8; 3]
         ensures { result ≡ letters_of self.0 }
     {
