@@ -6,7 +6,7 @@ use mathlib.Core.Path.{◌≡◌, refl, sym, ap, ◌∙◌}
 use mathlib.Core.Bool.{Bool, ◌&&◌}
 use lib.Dec.{T, eqb, leb, ltb, eqb→eq}
 use lib.IntN.{ℤ, pos, negsuc}
-use lib.Ieee.{Float, fin, Format, prec, emax, low, up, down, fits}
+use lib.Ieee.{Float, fin, Format, prec, emax, low, up, down, fits, inf, nan}
 use lib.Ieee.Fits.{and_l, up_pos, down_pos}
 use lib.Ieee.Exact.{HasValue}
 
@@ -65,6 +65,10 @@ crossed x y d g a c h e f =
     (mul_right_comm x g c ∙ rw (e, mul_right_comm a d g, ← f) (mul_right_comm y c d))
 
 pub one_value : (f : Format) (x y : Float) (s : Bool) (a c : ℕ) → 0 < c → T (fits f x) → T (fits f y) → HasValue x s a c → HasValue y s a c → x ≡ y
+one_value f nan y s a c h p q v w = elim v [ ]
+one_value f (inf _) y s a c h p q v w = elim v [ ]
+one_value f (fin s' m e) nan s a c h p q v w = elim w [ ]
+one_value f (fin s' m e) (inf _) s a c h p q v w = elim w [ ]
 one_value f (fin s' m e) (fin t' n g) s a c h p q v w = go m n p q (crossed (m * up e) (n * up g) (down e) (down g) a c h v.1 w.1)
   where
     go : (m n : ℕ) → T (fits f (fin s' m e)) → T (fits f (fin t' n g)) → m * up e * down g ≡ n * up g * down e → fin s' m e ≡ fin t' n g

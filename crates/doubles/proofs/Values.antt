@@ -7,17 +7,21 @@ use mathlib.Core.Bool.{Bool, true, false, not}
 use borrow.Author.Tests.{ne_eqb}
 use lib.Dec.{T, leb, eqb}
 use lib.Pow.{pow_pos, pow-add, pow_mono, shl_lt}
-use lib.Ieee.{Float, fin, Format, prec, emax, low, hid, ones, top, up, down, unlike, round, mul, of_bits, of_fields, is_nan}
+use lib.Ieee.{Float, fin, Format, prec, emax, low, hid, ones, top, up, down, unlike, round, mul, of_bits, of_fields, is_nan, inf, nan}
 use lib.Ieee.Fits.{down_pos, reach}
 use lib.Ieee.Exact.{HasValue, odd_sign, round_exact}
 use lib.Ieee.Scale.{round_same}
 
 pub not_nan : (x : Float) (s : Bool) (a c : ℕ) → HasValue x s a c → T (not (is_nan x))
 unfolding is_nan
+not_nan nan s a c v = elim v [ ]
+not_nan (inf _) s a c v = elim v [ ]
 not_nan (fin t m e) s a c v = tt
 
 -- one size by two fractions
 as_fraction : (x : Float) (s : Bool) (a c b d : ℕ) → 0 < c → a * d ≡ b * c → HasValue x s a c → HasValue x s b d
+as_fraction nan s a c b d h g v = elim v [ ]
+as_fraction (inf _) s a c b d h g v = elim v [ ]
 as_fraction (fin t m e) s a c b d h g v = (
   v.0,
   eq_of_mul-eq-mul_right c h (m * up e * d) (b * down e)
@@ -61,6 +65,10 @@ pub product_value :
     (f : Format) (x y : Float) (s : Bool) (n k : ℕ) → n < 2 ^ prec f → k ≤ low f → HasValue x s n 1 → HasValue y false 1 (2 ^ k)
     → HasValue (mul f x y) s n (2 ^ k)
 unfolding mul
+product_value f nan y s n k h l v w = elim v [ ]
+product_value f (inf _) y s n k h l v w = elim v [ ]
+product_value f (fin t m e) nan s n k h l v w = elim w [ ]
+product_value f (fin t m e) (inf _) s n k h l v w = elim w [ ]
 product_value f (fin t m e) (fin u p g) s n k h l v w =
     let same : m * up e * (p * up g) * 2 ^ k ≡ n * (down e * down g) =
     rw (mul_assoc (m * up e) (p * up g) (2 ^ k), w.1, one-mul (down g), ← mul_assoc n (down e) (down g), ← v.1, mul-one (m * up e)) in

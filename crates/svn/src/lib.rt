@@ -8,7 +8,7 @@ ghost use Rattle.paper.specs.Satellite.{is_satellite, satellite_of, letters_of};
 pub const MOST_SATELLITES: u8 = 36;
 
 // A satellite's number. The public field can hold any, so whoever is given one asks `is_satellite`.
-#[derive(Drop)]
+#[derive(Clone, Copy)]
 pub struct Svn(pub u8);
 
 // The satellite of a number, or that there is none.

@@ -8,30 +8,18 @@ use mir.Facts.{to_z-of_z}
 use Rattle.gst.proofs.Sums.{too_far, too_early, backward, forward}
 use Rattle.gst.proofs.Gst.sum.Goals as goal
 
--- what `size` and `below_zero` say, of the argument itself
-sized : (c : goal.After-size-by) → c.size-by.result ≡ nat_abs c.args.seconds
-sized c = simp (to_z-of_z c.ranges.seconds) at c.size-by.ensures
-
-negative : (c : goal.Then-below_zero) → non_neg c.args.seconds ≡ false
-negative c =
-    let same = to_z-of_z c.ranges.seconds in
-    not-true _ (sym (simp same at c.below_zero.ensures) ∙ c.if-below_zero.true)
-
-positive : (c : goal.Else-below_zero) → non_neg c.args.seconds ≡ true
-positive c =
-    let same = to_z-of_z c.ranges.seconds in
-    not-false _ (sym (simp same at c.below_zero.ensures) ∙ c.if-below_zero.false)
-
 pub returns-then-by-ge-WEEK_SECONDS : goal.returns-then-by-ge-WEEK_SECONDS
 returns-then-by-ge-WEEK_SECONDS c =
     too_far _ _ _ c.args.seconds
-    (sized c) (negative c) c.if-by-ge-WEEK_SECONDS.true
+    (let it : c.size-by.result ≡ nat_abs c.args.seconds = simp (to_z-of_z c.ranges.seconds) at c.size-by.ensures in it) (let it : non_neg c.args.seconds ≡ false = let same = to_z-of_z c.ranges.seconds in
+    not-true _ (sym (simp same at c.below_zero.ensures) ∙ c.if-below_zero.true) in it) c.if-by-ge-WEEK_SECONDS.true
 
 pub returns-then-from-by : goal.returns-then-from-by
 returns-then-from-by c =
     let total = c.seconds-from.ensures in
     too_early _ _ _ c.args.seconds
-    (sized c) (negative c)
+    (let it : c.size-by.result ≡ nat_abs c.args.seconds = simp (to_z-of_z c.ranges.seconds) at c.size-by.ensures in it) (let it : non_neg c.args.seconds ≡ false = let same = to_z-of_z c.ranges.seconds in
+    not-true _ (sym (simp same at c.below_zero.ensures) ∙ c.if-below_zero.true) in it)
     c.if-by-ge-WEEK_SECONDS.false (rw total at c.if-from-by.true)
 
 pub returns-then-below_zero : goal.returns-then-below_zero
@@ -40,7 +28,8 @@ returns-then-below_zero c =
     c.time_at.ensures
     ∙ rw total
     (backward _ _ _ c.args.seconds
-    (sized c) (negative c)
+    (let it : c.size-by.result ≡ nat_abs c.args.seconds = simp (to_z-of_z c.ranges.seconds) at c.size-by.ensures in it) (let it : non_neg c.args.seconds ≡ false = let same = to_z-of_z c.ranges.seconds in
+    not-true _ (sym (simp same at c.below_zero.ensures) ∙ c.if-below_zero.true) in it)
     c.if-by-ge-WEEK_SECONDS.false (rw total at c.if-from-by.false))
 
 pub returns : goal.returns
@@ -48,4 +37,5 @@ returns c =
     c.time_at-2.ensures
     ∙ rw c.seconds-from.ensures
     (forward _ _ _ c.args.seconds
-    (sized c) (positive c))
+    (let it : c.size-by.result ≡ nat_abs c.args.seconds = simp (to_z-of_z c.ranges.seconds) at c.size-by.ensures in it) (let it : non_neg c.args.seconds ≡ true = let same = to_z-of_z c.ranges.seconds in
+    not-false _ (sym (simp same at c.below_zero.ensures) ∙ c.if-below_zero.false) in it))
