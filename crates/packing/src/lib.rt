@@ -1,5 +1,7 @@
 // Bits in a row (STORE 21.2): a number of k whole bytes and two bits, data behind it, zeros up to a whole byte; and the two read back. Once over
 // the head's bytes and the data's, which have three bits past their end.
+#![tactic(auto)]
+
 ghost use Rattle.std.specs.Prelude.{◌≡◌, ◌++◌, ◌+◌, ◌-◌, ◌*◌, ◌/◌, ◌^◌, ◌≤◌, ◌<◌, length};
 ghost use Rattle.paper.specs.Field.{bits_at};
 ghost use Rattle.paper.specs.Message.{digits_of, bits_from, in_bytes};
@@ -22,6 +24,7 @@ fn put_big(d: &mut [u8], k: usize, v: u64)
 }
 
 // The number in the first k bytes.
+#[tactic(auto, unfolding(paper::specs::Field::bits_at))]
 fn big(s: &[u8], k: usize) -> u64
     requires { (k ≤ length s.now) × (k ≤ 8) }
     ensures { result ≡ bits_at s.now 0 (8 * k) }

@@ -1,5 +1,7 @@
 // The header's numbers, and rows of the room: where one and its records start, which one comes next or lies so many back, its mark and
 // its subframe.
+#![tactic(auto)]
+
 ghost use Rattle.std.specs.Prelude.{◌≡◌, ◌≤◌, ◌<◌, length};
 ghost use Rattle.paper.specs.Record.{family_if};
 ghost use Rattle.paper.specs.Room.{header_size, head_size, row_size, room_size, depth, slots, current, by_time, row_at, row_of, marked, is_at, slot_at, record_at};
@@ -96,6 +98,7 @@ pub fn record_start(timing: bool, i: usize) -> usize
 }
 
 // STORE 10.3: row 0 is behind the last
+#[tactic(auto, unfolding(paper::specs::Feed::next_row))]
 pub fn next_row(d: usize, c: usize) -> usize
     requires { c < d }
     ensures { result ≡ next_row d c }
@@ -104,6 +107,7 @@ pub fn next_row(d: usize, c: usize) -> usize
 }
 
 // STORE 12.1, backward around the ring: the row j before row c.
+#[tactic(auto, unfolding(paper::specs::Ask::row_back))]
 pub fn row_back(d: usize, c: usize, j: usize) -> usize
     requires { (c < d) × ((j < d) × (d < 256)) }
     ensures { result ≡ row_back d c j }
@@ -131,6 +135,7 @@ pub fn is_at(row: &[u8], week: u16, time: u32) -> bool
 }
 
 // A row marked T: its mark 1, and the week and time of T.
+#[tactic(auto, unfolding(paper::specs::Feed::marked_at))]
 pub fn mark_row(row: &mut [u8], week: u16, time: u32)
     requires { head_size ≤ length row.old }
     ensures { row.new ≡ marked_at week time row.old }

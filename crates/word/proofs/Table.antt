@@ -1,7 +1,7 @@
 -- The types and bands that the table of words leaves out.
 use mathlib.Core.Path.{◌≡◌, sym}
 use mathlib.Core.Logic.{◌≢◌}
-use mathlib.Core.Bool.{and_false}
+use mathlib.Core.Bool.{and-false}
 use Prim.Native.Nat.{ℕ}
 use lib.Dec.{eqb}
 use borrow.Author.Tests.{ne_eqb}
@@ -26,4 +26,4 @@ no_timing k a b = rw (ne_eqb 6 k (λ h. a (sym h)), ne_eqb 10 k (λ h. b (sym h)
 -- "E1B only"
 pub no_timing_on : (k band : ℕ) → band ≢ 0 → nothing ≡ owned Timing k band
 unfolding table owned_in
-no_timing_on k band a = rw (ne_eqb band 0 a, and_false (eqb 6 k), and_false (eqb 10 k))
+no_timing_on k band a = rw (ne_eqb band 0 a, and-false (eqb 6 k), and-false (eqb 10 k))

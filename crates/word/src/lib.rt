@@ -1,4 +1,6 @@
 // What a word does to one record (STORE 10.6 to 10.8).
+#![tactic(auto)]
+
 ghost use Rattle.std.specs.Prelude.{◌≡◌, cond, ℕ, ◌-◌, ◌≤◌, ◌<◌, length, set};
 ghost use Rattle.paper.specs.Record.{CED, Timing as TIMING, family_if, satellite_at, ages_at, size, with_count};
 ghost use Rattle.paper.specs.Word.{word_bytes, type_of, owns, owned, InBounds, takeover, written, fed_record};
@@ -40,6 +42,7 @@ fn line(to: usize, end: usize, from: usize, age: usize) -> Owned
 }
 
 // The table's lines for CED, on either band.
+#[tactic(auto, unfolding(paper::specs::Word::owned_in, paper::specs::Word::table))]
 fn owned_ced(kind: u8) -> Owned
     ensures { (band : ℕ) → owned_of result ≡ owned CED kind band }
 {
@@ -54,6 +57,7 @@ fn owned_ced(kind: u8) -> Owned
 }
 
 // The table's lines for timing, on E1B alone.
+#[tactic(auto, unfolding(paper::specs::Word::owned_in, paper::specs::Word::table))]
 fn owned_timing(kind: u8, band: u8) -> Owned
     ensures { owned_of result ≡ owned TIMING kind band }
 {
@@ -142,6 +146,7 @@ fn write_bits(
     clear_count_if(bytes, changed);
 }
 
+#[tactic(auto, unfolding(paper::specs::Word::written))]
 fn write_owned(bytes: &mut [u8], timing: bool, word: &[u8], part: Owned)
     requires bytes_len { (length bytes.old ≡ size (family_if timing)) × (length word.now ≡ word_bytes) }
     requires in_bounds { InBounds (family_if timing) (owned_of part) }
@@ -159,6 +164,7 @@ fn write_owned(bytes: &mut [u8], timing: bool, word: &[u8], part: Owned)
 }
 
 // What a word of the satellite does to the CED record that it goes to, on either band.
+#[tactic(auto, unfolding(paper::specs::Word::fed_record))]
 pub fn feed_ced(bytes: &mut [u8], sat: u8, word: &[u8])
     requires { (length bytes.old ≡ size CED) × (length word.now ≡ word_bytes) }
     ensures { (band : ℕ) → bytes.new ≡ fed_record CED sat band word.now bytes.old }
@@ -169,6 +175,7 @@ pub fn feed_ced(bytes: &mut [u8], sat: u8, word: &[u8])
 }
 
 // What a word of the satellite does to the timing record that it goes to.
+#[tactic(auto, unfolding(paper::specs::Word::fed_record))]
 pub fn feed_timing(bytes: &mut [u8], sat: u8, band: u8, word: &[u8])
     requires { (length bytes.old ≡ size TIMING) × (length word.now ≡ word_bytes) }
     ensures { bytes.new ≡ fed_record TIMING sat band word.now bytes.old }
