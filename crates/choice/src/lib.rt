@@ -1,6 +1,8 @@
 // Which record of a row a word goes to (STORE 10.5): this satellite's, else one without a satellite, else the oldest; of equals the last.
 // Searches go from the end, break with their slot and refuse on the last. Only the promises of `choose_ced` and `choose_timing` are for
 // callers.
+#![tactic(auto)]
+
 ghost use Rattle.std.specs.Prelude.{◌≡◌, ◌+◌, ◌≤◌, ◌<◌, length};
 ghost use Rattle.paper.specs.Record.{family_if, CED, Timing as TIMING};
 ghost use Rattle.paper.specs.Room.{most_slots, slot_size, row_size};

@@ -1,5 +1,7 @@
 // What an accepted tag adds: its length to each record, in any row, with the candidate's satellite and all its bits.
 // The given data takes the candidate's place in the comparison: the two agree in all bits that are compared.
+#![tactic(auto)]
+
 ghost use Rattle.std.specs.Prelude.{◌≡◌, ◌+◌, ◌≤◌, min, length, take, drop};
 ghost use Rattle.paper.specs.Record.{family_if, data_bytes, ages_at, count, most_count, same_list, same_bits, with_count};
 ghost use Rattle.paper.specs.Room.{most_slots, slot_size, row_size, in_slot, each_record, every_record, how_many, how_many_in};
@@ -93,6 +95,7 @@ fn credit_slot(slot: &mut [u8], timing: bool, sat: u8, given: &[u8], added: u8) 
 }
 
 // The records of a family in a row.
+#[tactic(auto, unfolding(paper::specs::Room::each_record, paper::specs::Room::how_many))]
 fn credit_row(row: &mut [u8], n: usize, timing: bool, sat: u8, given: &[u8], added: u8) -> u32
     requires { (n ≤ most_slots) × ((row_size n ≤ length row.old) × (length given.now ≡ data_bytes (family_if timing))) }
     ensures { (row.new
@@ -112,6 +115,7 @@ fn credit_row(row: &mut [u8], n: usize, timing: bool, sat: u8, given: &[u8], add
 }
 
 // The records of a family in all rows: how many took the tag.
+#[tactic(auto, unfolding(paper::specs::Room::every_record, paper::specs::Room::how_many_in))]
 pub fn credit_rows(room: &mut [u8], timing: bool, sat: u8, given: &[u8], added: u8) -> u32
     requires { InRange room.old × (length given.now ≡ data_bytes (family_if timing)) }
     ensures { (room.new

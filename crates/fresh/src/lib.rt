@@ -1,5 +1,7 @@
 // A fresh store (STORE 9.1): blank rows, and records with no satellite, no count, no data and the greatest ages. Whether D, N, the
 // rule and the room's length are allowed is tested before.
+#![tactic(auto)]
+
 ghost use Rattle.std.specs.Prelude.{◌≡◌, ◌+◌, ◌≤◌, ◌<◌, length, replicate};
 ghost use Rattle.paper.specs.Fresh.{header, blank_slot, blank_row, fresh};
 ghost use Rattle.paper.specs.Parts.{on_part, on_parts};
@@ -52,6 +54,7 @@ fn blank_slots(row: &mut [u8], n: usize)
     }
 }
 
+#[tactic(auto, unfolding(paper::specs::Fresh::blank_row))]
 fn blank_row(row: &mut [u8], n: usize)
     requires { row_size n ≤ length row.old }
     ensures { row.new ≡ blank_row n row.old }
@@ -86,6 +89,7 @@ fn put_header(room: &mut [u8], d: u8, n: u8, rule: u8)
 }
 
 // The room with a fresh store of D rows and N slots under a rule at its start; its bytes past the formula's length stay.
+#[tactic(auto, unfolding(paper::specs::Fresh::fresh))]
 pub fn fresh_room(room: &mut [u8], d: u8, n: u8, rule: u8)
     requires { room_size d n ≤ length room.old }
     ensures { room.new ≡ fresh d n rule room.old }

@@ -1,5 +1,7 @@
 // Lookups in the room (STORE 11.2, 11.3): the first row of a subframe, the first record of a satellite in a row, and
 // the candidate of a tag. Each yields its index by `break` and refuses on the last.
+#![tactic(auto)]
+
 ghost use Rattle.std.specs.Prelude.{◌≡◌, ◌&&◌, ◌+◌, ◌≤◌, ◌<◌, length};
 ghost use Rattle.paper.specs.Parts.{part};
 ghost use Rattle.paper.specs.Record.{family_if, CED, Timing as TIMING, data_bytes, data_at, size};
@@ -30,6 +32,7 @@ fn is_marked_at(row: &[u8], week: u16, time: u32) -> bool
 }
 
 // STORE 11.2: the first row, from row 0, that is marked with that time
+#[tactic(auto, unfolding(paper::specs::Tag::first_row))]
 pub fn row_marked(room: &[u8], week: u16, time: u32) -> Found
     requires { InRange room.now }
     ensures { result ≡ found (depth room.now) (first_row week time room.now) }
@@ -53,6 +56,7 @@ pub fn row_marked(room: &[u8], week: u16, time: u32) -> Found
 }
 
 // STORE 11.3: the satellite's first record of the family in a row
+#[tactic(auto, unfolding(paper::specs::Tag::first_slot))]
 pub fn slot_of(row: &[u8], n: usize, timing: bool, sat: u8) -> Found
     requires { (n < 256) × (row_size n ≤ length row.now) }
     ensures { result ≡ found n (first_slot (family_if timing) sat n row.now) }
@@ -71,6 +75,7 @@ pub fn slot_of(row: &[u8], n: usize, timing: bool, sat: u8) -> Found
 }
 
 // STORE 11.3: the greatest age and one more is not above the COP
+#[tactic(auto, unfolding(paper::specs::Tag::fits_cop))]
 fn fits_cop_ced(rec: &[u8], cop: u8) -> bool
     requires { length rec.now ≡ size CED }
     ensures { result ≡ fits_cop CED cop rec.now }
@@ -78,6 +83,7 @@ fn fits_cop_ced(rec: &[u8], cop: u8) -> bool
     records::one_older(Ced::greatest(Ced::ages(rec)), 1) <= cop
 }
 
+#[tactic(auto, unfolding(paper::specs::Tag::fits_cop))]
 fn fits_cop_timing(rec: &[u8], cop: u8) -> bool
     requires { length rec.now ≡ size TIMING }
     ensures { result ≡ fits_cop TIMING cop rec.now }
@@ -127,6 +133,7 @@ pub fn data_of(room: &[u8], at: usize, timing: bool) -> &[u8]
 }
 
 // Where the candidate's record starts in the room; week and time are the MACK's less 30 s.
+#[tactic(auto, unfolding(crate::specs::Candidate::candidate_at))]
 pub fn candidate_at(room: &[u8], timing: bool, sat: u8, cop: u8, week: u16, time: u32) -> Found
     requires { InRange room.now }
     ensures { result ≡ candidate_at (family_if timing) sat cop week time room.now }

@@ -1,4 +1,6 @@
 // STORE 13.1, every count 0: those of the CED records in every row, and then those of the timing records.
+#![tactic(auto)]
+
 ghost use Rattle.std.specs.Prelude.{◌≡◌, ◌≤◌, ◌<◌, length};
 ghost use Rattle.paper.specs.Parts.{on_parts};
 ghost use Rattle.paper.specs.Record.{family_if, with_count};
@@ -15,6 +17,7 @@ fn clear_slot(slot: &mut [u8], timing: bool)
     numbers::write16(slot, layout::base(timing) + COUNT_AT, 0);
 }
 
+#[tactic(auto, unfolding(paper::specs::Room::each_record))]
 fn clear_each(row: &mut [u8], n: usize, timing: bool)
     requires { row_size n ≤ length row.old }
     ensures { row.new ≡ each_record (family_if timing) n (with_count 0) row.old }

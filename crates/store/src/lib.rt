@@ -1,6 +1,8 @@
 // STORE 8, refusal 3: whether the bytes of a room are a store. Every test stops at its first fault, and of a record
 // it reads the satellite, the count where there is no satellite, and the last byte. Nearly every slot of a store is passed at one
 // look at both its records: see `is_plain`.
+#![tactic(auto)]
+
 ghost use Rattle.std.specs.Prelude.{◌≡◌, ◌&&◌, ◌+◌, ◌*◌, ◌≤◌, ◌<◌, leb, length};
 ghost use Rattle.paper.specs.Parts.{all_parts};
 ghost use Rattle.paper.specs.Record.{Family, ages_at, size, satellite, count};
@@ -24,6 +26,7 @@ const CED_LAST: usize = TIMING_AT - 1;
 
 const TIMING_LAST: usize = SLOT - 1;
 
+#[tactic(auto, unfolding(paper::specs::Store::header_in_range))]
 fn header_in_range(room: &[u8]) -> bool
     requires { header_size ≤ length room.now }
     ensures { result ≡ header_in_range room.now }
@@ -34,6 +37,7 @@ fn header_in_range(room: &[u8]) -> bool
     room[CURRENT_AT] < room[DEPTH_AT]
 }
 
+#[tactic(auto, unfolding(paper::specs::Store::header_rest))]
 fn header_rest(room: &[u8]) -> bool
     requires { header_size ≤ length room.now }
     ensures { result ≡ header_rest room.now }
@@ -76,6 +80,7 @@ fn record_allowed(record: &[u8], most: u8) -> bool
     record[record.len() - 1] % LAST_WEIGHT == 0
 }
 
+#[tactic(auto, unfolding(paper::specs::Store::slot_allowed))]
 fn slot_allowed(slot: &[u8], most: u8) -> bool
     requires { length slot.now ≡ slot_size }
     ensures { result ≡ slot_allowed most slot.now }
@@ -87,6 +92,7 @@ fn slot_allowed(slot: &[u8], most: u8) -> bool
 }
 
 // Nothing in either record. The CED record's last byte and the timing record's satellite and count are four bytes in a row.
+#[tactic(auto, unfolding(crate::specs::Slot::is_empty))]
 fn is_empty(slot: &[u8]) -> bool
     requires { length slot.now ≡ slot_size }
     ensures { result ≡ is_empty slot.now }
@@ -101,6 +107,7 @@ fn is_empty(slot: &[u8]) -> bool
 }
 
 // Both records of one satellite, whichever, and no bit past them.
+#[tactic(auto, unfolding(crate::specs::Slot::is_shared))]
 fn is_shared(slot: &[u8]) -> bool
     requires { length slot.now ≡ slot_size }
     ensures { result ≡ is_shared slot.now }
@@ -163,6 +170,7 @@ fn slots_allowed(row: &[u8], n: usize, most: u8) -> bool
     true
 }
 
+#[tactic(auto, unfolding(paper::specs::Store::mark_allowed))]
 fn mark_allowed(row: &[u8]) -> bool
     requires { head_size ≤ length row.now }
     ensures { result ≡ mark_allowed row.now }
@@ -173,6 +181,7 @@ fn mark_allowed(row: &[u8]) -> bool
     row[SPARE_AT] == 0
 }
 
+#[tactic(auto, unfolding(paper::specs::Store::blank_allowed))]
 fn blank_allowed(row: &[u8]) -> bool
     requires { head_size ≤ length row.now }
     ensures { result ≡ blank_allowed row.now }
@@ -183,6 +192,7 @@ fn blank_allowed(row: &[u8]) -> bool
     numbers::read32(row, TIME_AT) == 0
 }
 
+#[tactic(auto, unfolding(paper::specs::Store::subframe_allowed))]
 fn subframe_allowed(row: &[u8]) -> bool
     requires { head_size ≤ length row.now }
     ensures { result ≡ subframe_allowed row.now }
@@ -195,6 +205,7 @@ fn subframe_allowed(row: &[u8]) -> bool
 }
 
 // In a blank row any satellite is one too many.
+#[tactic(auto, unfolding(paper::specs::Store::row_allowed, paper::specs::Store::most_in))]
 fn row_allowed(row: &[u8], n: usize) -> bool
     requires { row_size n ≤ length row.now }
     ensures { result ≡ row_allowed n row.now }
@@ -233,6 +244,7 @@ fn rows_allowed(room: &[u8], d: usize, n: usize) -> bool
 }
 
 // Whether the room is a store.
+#[tactic(auto, unfolding(paper::specs::Store::is_store))]
 pub fn is_store(room: &[u8]) -> bool
     ensures { result ≡ is_store room.now }
 {

@@ -1,0 +1,11 @@
+-- `fresh::fill` meets its contract. The loop's invariant: what was passed is x.
+use mathlib.Core.Path.{◌≡◌}
+use Prim.Native.Nat.{◌-◌, ◌≤◌}
+use lib.ListN.{length, take, replicate}
+use Rattle.fresh.proofs.fill.Given as goal
+
+abbrev pub invariant-loop-i : goal.invariant-loop-i
+invariant-loop-i l = (l.i ≤ length l.bytes) × (length l.bytes ≡ length l.initial.bytes) × (take l.i l.bytes ≡ replicate l.i l.x)
+
+abbrev pub decreases-loop-i : goal.decreases-loop-i
+decreases-loop-i l = length l.initial.bytes - l.i

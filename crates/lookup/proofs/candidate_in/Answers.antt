@@ -1,0 +1,52 @@
+-- The row that is looked at is row r; the slot found there, and its ages, decide.
+use mathlib.Core.Path.{sym, ◌∙◌}
+use Prim.Native.Nat.{◌+◌, ◌-◌}
+use lib.ListN.{take, drop}
+use borrow.Author.Tests.{not-true, not-false}
+use Rattle.paper.specs.Record.{family_if}
+use Rattle.rows.proofs.Where.{row_lent}
+use Rattle.lookup.proofs.Steps.{Looked, in_none, in_unfit, in_fit}
+use Rattle.lookup.proofs.candidate_in.Goals as goal
+
+pub returns-in_default : goal.returns-in_default
+returns-in_default c =
+    let args = c.args in
+    in_none (let it : let args = c.args in
+    let at = c.row_start-start.result in
+    Looked args.room.now args.r c.slots-n.result (take (at + c.row_size.result - at) (drop at args.room.now)) = let n = c.slots-n in
+    record {
+      facts = c.requires.0;
+      below = c.requires.1;
+      count = n.ensures.0;
+      is = row_lent c.args.room.now n.result c.args.r _ _ n.ensures.0 c.row_start-start.ensures c.row_size.ensures;
+    } in it) (family_if args.timing) args.sat args.cop c.slot_of.ensures c.enum_told-1.given.1
+
+pub returns-then-not-fits_cop : goal.returns-then-not-fits_cop
+returns-then-not-fits_cop c =
+    let args = c.args in
+    in_unfit (let it : let args = c.args in
+    let at = c.row_start-start.result in
+    Looked args.room.now args.r c.slots-n.result (take (at + c.row_size.result - at) (drop at args.room.now)) = let n = c.slots-n in
+    record {
+      facts = c.requires.0;
+      below = c.requires.1;
+      count = n.ensures.0;
+      is = row_lent c.args.room.now n.result c.args.r _ _ n.ensures.0 c.row_start-start.ensures c.row_size.ensures;
+    } in it) (family_if args.timing) args.sat args.cop c.slot_of.ensures c.slot-1.given.1
+    c.row_start-start.ensures c.record_start.ensures
+    (sym c.fits_cop.ensures ∙ not-true _ c.if-not-fits_cop.true-raw)
+
+pub returns : goal.returns
+returns c =
+    let args = c.args in
+    in_fit (let it : let args = c.args in
+    let at = c.row_start-start.result in
+    Looked args.room.now args.r c.slots-n.result (take (at + c.row_size.result - at) (drop at args.room.now)) = let n = c.slots-n in
+    record {
+      facts = c.requires.0;
+      below = c.requires.1;
+      count = n.ensures.0;
+      is = row_lent c.args.room.now n.result c.args.r _ _ n.ensures.0 c.row_start-start.ensures c.row_size.ensures;
+    } in it) (family_if args.timing) args.sat args.cop c.slot_of.ensures c.slot-1.given.1
+    c.row_start-start.ensures c.record_start.ensures
+    (sym c.fits_cop.ensures ∙ not-false _ c.if-not-fits_cop.false-raw)

@@ -1,0 +1,16 @@
+-- `store::rest_allowed` meets its contract: the slots from here on decide what all of them decide.
+use mathlib.Core.Path.{◌≡◌}
+use Prim.Native.Nat.{◌+◌, ◌*◌, ◌≤◌}
+use lib.ListN.{length}
+use Rattle.paper.specs.Parts.{all_parts}
+use Rattle.paper.specs.Room.{slot_size}
+use Rattle.paper.specs.Store.{slot_allowed}
+use Rattle.store.proofs.rest_allowed.Given as goal
+
+abbrev pub invariant-loop-left : goal.invariant-loop-left
+invariant-loop-left l =
+    (l.at + l.left * slot_size ≤ length l.row)
+    × (all_parts (slot_allowed l.most) slot_size l.count l.from l.row ≡ all_parts (slot_allowed l.most) slot_size l.left l.at l.row)
+
+abbrev pub decreases-loop-left : goal.decreases-loop-left
+decreases-loop-left l = l.left
