@@ -1,5 +1,4 @@
 -- The rule decides first, then the mark of the current row, and then the sign of the difference.
-use borrow.Author.Tests.{not-true, not-false}
 use mathlib.Core.Bool.{not}
 use mathlib.Core.Path.{◌≡◌, sym, ap, ◌∙◌}
 use lib.IntN.{ℤ}
@@ -14,32 +13,37 @@ use Rattle.gst.specs.declared.Apart.{Apart}
 use Rattle.ageing.proofs.Judged.{none_earlier, blank_earlier, marked_earlier}
 use Rattle.ageing.proofs.comes_earlier.Goals as goal
 
--- the sign of what the difference says is the answer
-by_sign : (c : goal.After-after) (a : Apart) → c.after.result ≡ a
-    → let args = c.args in
-    not (non_neg (subframes_of (apart_answer a))) ≡ comes_earlier args.gst.wn.0 (start_of args.gst.tow.0) args.room.now
-by_sign c a told =
-    let room = c.args.room.now in
-    let apart = rw c.subframe_at.ensures at c.after.ensures in
-    marked_earlier _ _ room c.row-row.result.now (c.row-row.ensures.0 ∙ ap (λ r. row_of r room) c.current.ensures.0)
-    (sym c.by_time.ensures ∙ not-false _ c.if-not-by_time.false-raw)
-    (subframes_of (apart_answer a)) (ap subframes_of (ap apart_answer (sym told) ∙ apart))
-    (sym c.is_marked.ensures ∙ not-false _ c.if-not-is_marked.false-raw)
-
 pub returns-then-not-by_time : goal.returns-then-not-by_time
-returns-then-not-by_time c = none_earlier _ _ _ (sym c.by_time.ensures ∙ not-true _ c.if-not-by_time.true-raw)
+returns-then-not-by_time c = none_earlier _ _ _ (sym c.by_time.ensures ∙ c.if-not-by_time.true)
 
 pub returns-then-not-is_marked : goal.returns-then-not-is_marked
 returns-then-not-is_marked c =
     let room = c.args.room.now in
     blank_earlier _ _ room c.row-row.result.now (c.row-row.ensures.0 ∙ ap (λ r. row_of r room) c.current.ensures.0)
-    (sym c.by_time.ensures ∙ not-false _ c.if-not-by_time.false-raw)
-    (sym c.is_marked.ensures ∙ not-true _ c.if-not-is_marked.true-raw)
+    (sym c.by_time.ensures ∙ c.if-not-by_time.false)
+    (sym c.is_marked.ensures ∙ c.if-not-is_marked.true)
 
 pub returns-in-Subframes : goal.returns-in-Subframes
 returns-in-Subframes c =
-    let same = to_z-of_z {w = w32} {z = c.subframes-1.given.0.0} (record { sfits = c.known_told-1.given.0.1 }) in
-    c.below_zero.ensures ∙ ap (λ (z : ℤ). not (non_neg z)) same ∙ by_sign c _ c.subframes-1.given.1
+    let by_sign : (a : Apart) → c.after.result ≡ a
+    → let args = c.args in
+    not (non_neg (subframes_of (apart_answer a))) ≡ comes_earlier args.gst.wn.0 (start_of args.gst.tow.0) args.room.now = λ a told. let room = c.args.room.now in
+    let apart = rw c.subframe_at.ensures at c.after.ensures in
+    marked_earlier _ _ room c.row-row.result.now (c.row-row.ensures.0 ∙ ap (λ r. row_of r room) c.current.ensures.0)
+    (sym c.by_time.ensures ∙ c.if-not-by_time.false)
+    (subframes_of (apart_answer a)) (ap subframes_of (ap apart_answer (sym told) ∙ apart))
+    (sym c.is_marked.ensures ∙ c.if-not-is_marked.false) in
+    let same = to_z-of_z {w = w32} {z = c.in-Subframes.subframes} (record { sfits = c.in-Subframes.known_told-1-own.given.0.1 }) in
+    c.below_zero.ensures ∙ ap (λ (z : ℤ). not (non_neg z)) same ∙ by_sign _ c.in-Subframes.is
 
 pub returns-in-TowTooLarge : goal.returns-in-TowTooLarge
-returns-in-TowTooLarge c = by_sign c _ c.enum_told-1.given.1
+returns-in-TowTooLarge c =
+    let by_sign : (a : Apart) → c.after.result ≡ a
+    → let args = c.args in
+    not (non_neg (subframes_of (apart_answer a))) ≡ comes_earlier args.gst.wn.0 (start_of args.gst.tow.0) args.room.now = λ a told. let room = c.args.room.now in
+    let apart = rw c.subframe_at.ensures at c.after.ensures in
+    marked_earlier _ _ room c.row-row.result.now (c.row-row.ensures.0 ∙ ap (λ r. row_of r room) c.current.ensures.0)
+    (sym c.by_time.ensures ∙ c.if-not-by_time.false)
+    (subframes_of (apart_answer a)) (ap subframes_of (ap apart_answer (sym told) ∙ apart))
+    (sym c.is_marked.ensures ∙ c.if-not-is_marked.false) in
+    by_sign _ c.in-TowTooLarge.is

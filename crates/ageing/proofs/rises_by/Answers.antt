@@ -1,5 +1,4 @@
 -- The rule decides, and under rule 1 the subframes gone by, held.
-use borrow.Author.Tests.{not-true, not-false}
 use mathlib.Core.Path.{◌≡◌, sym, ap, ◌∙◌}
 use Prim.Native.Nat.{min}
 use lib.IntN.{nat_abs}
@@ -14,25 +13,28 @@ use Rattle.gst.specs.declared.Apart.{Apart}
 use Rattle.ageing.proofs.Judged.{rise_one, rise_gone}
 use Rattle.ageing.proofs.rises_by.Goals as goal
 
--- the size of what the difference says, held, is the answer
-by_size : (c : goal.After-after) (a : Apart) → c.after.result ≡ a
-    → let args = c.args in
-    min oldest (nat_abs (subframes_of (apart_answer a))) ≡ min oldest (rises_by args.wn args.tow args.room.now)
-by_size c a told =
-    let room = c.args.room.now in
-    rise_gone _ _ room c.row.result.now (c.row.ensures.0 ∙ ap (λ r. row_of r room) c.current.ensures.0)
-    (sym c.by_time.ensures ∙ not-false _ c.if-not-by_time.false-raw)
-    (subframes_of (apart_answer a)) (ap subframes_of (ap apart_answer (sym told) ∙ c.after.ensures))
-
 pub returns-then-not-by_time : goal.returns-then-not-by_time
-returns-then-not-by_time c = rise_one _ _ _ (sym c.by_time.ensures ∙ not-true _ c.if-not-by_time.true-raw)
+returns-then-not-by_time c = rise_one _ _ _ (sym c.by_time.ensures ∙ c.if-not-by_time.true)
 
 pub returns-in-Subframes : goal.returns-in-Subframes
 returns-in-Subframes c =
-    let same = to_z-of_z {w = w32} {z = c.subframes-1.given.0.0} (record { sfits = c.known_told-1.given.0.1 }) in
+    let by_size : (a : Apart) → c.after.result ≡ a
+    → let args = c.args in
+    min oldest (nat_abs (subframes_of (apart_answer a))) ≡ min oldest (rises_by args.wn args.tow args.room.now) = λ a told. let room = c.args.room.now in
+    rise_gone _ _ room c.row.result.now (c.row.ensures.0 ∙ ap (λ r. row_of r room) c.current.ensures.0)
+    (sym c.by_time.ensures ∙ c.if-not-by_time.false)
+    (subframes_of (apart_answer a)) (ap subframes_of (ap apart_answer (sym told) ∙ c.after.ensures)) in
+    let same = to_z-of_z {w = w32} {z = c.in-Subframes.subframes} (record { sfits = c.in-Subframes.known_told-1-own.given.0.1 }) in
     c.held.ensures
     ∙ ap (min oldest) (c.size.ensures ∙ ap nat_abs same)
-    ∙ by_size c _ c.subframes-1.given.1
+    ∙ by_size _ c.in-Subframes.is
 
 pub returns-in-TowTooLarge : goal.returns-in-TowTooLarge
-returns-in-TowTooLarge c = by_size c _ c.enum_told-1.given.1
+returns-in-TowTooLarge c =
+    let by_size : (a : Apart) → c.after.result ≡ a
+    → let args = c.args in
+    min oldest (nat_abs (subframes_of (apart_answer a))) ≡ min oldest (rises_by args.wn args.tow args.room.now) = λ a told. let room = c.args.room.now in
+    rise_gone _ _ room c.row.result.now (c.row.ensures.0 ∙ ap (λ r. row_of r room) c.current.ensures.0)
+    (sym c.by_time.ensures ∙ c.if-not-by_time.false)
+    (subframes_of (apart_answer a)) (ap subframes_of (ap apart_answer (sym told) ∙ c.after.ensures)) in
+    by_size _ c.in-TowTooLarge.is

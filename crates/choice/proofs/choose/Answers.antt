@@ -7,21 +7,21 @@ pub returns-in-At : goal.returns-in-At
 returns-in-At c =
     let f = family_if c.args.timing in
     found_own f _ _ _ (λ k. (c.shared_slice_known-1.given k).fits) c.requires.0 _
-    (by_satellite f _ _ _ _ _ _ c.base-at.ensures c.last_of.ensures c.own-1.given.1)
+    (by_satellite f _ _ _ _ _ _ c.base-at.ensures c.last_of.ensures c.in-At.is)
 
 pub returns-in-At-last_of : goal.returns-in-At-last_of
 returns-in-At-last_of c =
     let f = family_if c.args.timing in
     let at = c.base-at.ensures in
     found_unclaimed f _ _ _ (λ k. (c.shared_slice_known-1.given k).fits) c.requires.0 _
-    (by_satellite f _ _ _ _ _ _ at c.last_of.ensures c.enum_told-1.given.1)
-    (by_satellite f _ _ _ _ _ _ at c.last_of-2.ensures c.unclaimed-1.given.1)
+    (by_satellite f _ _ _ _ _ _ at c.last_of.ensures c.in_default.is)
+    (by_satellite f _ _ _ _ _ _ at c.last_of-2.ensures c.in-At-last_of.is)
 
 pub returns : goal.returns
 returns c =
     let f = family_if c.args.timing in
     let at = c.base-at.ensures in
     found_oldest f _ _ _ (λ k. (c.shared_slice_known-1.given k).fits) c.requires.0 _
-    (by_satellite f _ _ _ _ _ _ at c.last_of.ensures c.enum_told-1.given.1)
-    (by_satellite f _ _ _ _ _ _ at c.last_of-2.ensures c.enum_told-in_default-last_of-1.given.1)
+    (by_satellite f _ _ _ _ _ _ at c.last_of.ensures c.in_default.is)
+    (by_satellite f _ _ _ _ _ _ at c.last_of-2.ensures c.in_default-last_of.is)
     c.last_oldest.ensures

@@ -2,7 +2,6 @@
 use mathlib.Core.Path.{sym, ◌∙◌}
 use Prim.Native.Nat.{◌+◌, ◌-◌}
 use lib.ListN.{take, drop}
-use borrow.Author.Tests.{not-true, not-false}
 use Rattle.paper.specs.Record.{family_if}
 use Rattle.rows.proofs.Where.{row_lent}
 use Rattle.lookup.proofs.Steps.{Looked, in_none, in_unfit, in_fit}
@@ -19,7 +18,7 @@ returns-in_default c =
       below = c.requires.1;
       count = n.ensures.0;
       is = row_lent c.args.room.now n.result c.args.r _ _ n.ensures.0 c.row_start-start.ensures c.row_size.ensures;
-    } in it) (family_if args.timing) args.sat args.cop c.slot_of.ensures c.enum_told-1.given.1
+    } in it) (family_if args.timing) args.sat args.cop c.slot_of.ensures c.in_default.is
 
 pub returns-then-not-fits_cop : goal.returns-then-not-fits_cop
 returns-then-not-fits_cop c =
@@ -32,9 +31,9 @@ returns-then-not-fits_cop c =
       below = c.requires.1;
       count = n.ensures.0;
       is = row_lent c.args.room.now n.result c.args.r _ _ n.ensures.0 c.row_start-start.ensures c.row_size.ensures;
-    } in it) (family_if args.timing) args.sat args.cop c.slot_of.ensures c.slot-1.given.1
+    } in it) (family_if args.timing) args.sat args.cop c.slot_of.ensures c.in-At.is
     c.row_start-start.ensures c.record_start.ensures
-    (sym c.fits_cop.ensures ∙ not-true _ c.if-not-fits_cop.true-raw)
+    (sym c.fits_cop.ensures ∙ c.if-not-fits_cop.true)
 
 pub returns : goal.returns
 returns c =
@@ -47,6 +46,6 @@ returns c =
       below = c.requires.1;
       count = n.ensures.0;
       is = row_lent c.args.room.now n.result c.args.r _ _ n.ensures.0 c.row_start-start.ensures c.row_size.ensures;
-    } in it) (family_if args.timing) args.sat args.cop c.slot_of.ensures c.slot-1.given.1
+    } in it) (family_if args.timing) args.sat args.cop c.slot_of.ensures c.in-At.is
     c.row_start-start.ensures c.record_start.ensures
-    (sym c.fits_cop.ensures ∙ not-false _ c.if-not-fits_cop.false-raw)
+    (sym c.fits_cop.ensures ∙ c.if-not-fits_cop.false)
