@@ -10,9 +10,9 @@ returns-then-left-eq0 c = last_nowhere _ _ _ c.loop-left.invariant.1 c.if-left-e
 pub loop-left-preserved : goal.loop-left-preserved
 loop-left-preserved c =
     let here = c.loop-left in
-    (omega arith, last_on _ _ _ here.invariant.1 (omega arith) (rw c.slot_start.ensures c (ne_eqb _ _ c.if-row-slot_start.false)))
+    (omega arith, last_on _ _ _ here.invariant.1 (omega arith) (rw c.slot_start.ensures at (ne_eqb _ _ c.if-row-slot_start.false)))
 
 pub returns : goal.returns
 returns c =
     let here = c.loop-left in
-    last_here _ _ _ here.invariant.1 (omega arith) (rw c.slot_start.ensures c (eq-eqb _ _ c.if-row-slot_start.true))
+    last_here _ _ _ here.invariant.1 (omega arith) (rw c.slot_start.ensures at (eq-eqb _ _ c.if-row-slot_start.true))
