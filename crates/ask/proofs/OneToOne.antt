@@ -3,7 +3,7 @@ use native.Mathlib.Omega.{arith}
 use mathlib.Core.Path.{◌≡◌, ap, ◌∙◌}
 use Prim.Native.Nat.{ℕ}
 use Rattle.refusals.specs.Reply.{refusal_number}
-use Rattle.refusals.proofs.Answers.{same-refusal}
+use Rattle.refusals.proofs.Answers.{same_refusal}
 use Rattle.ask.specs.declared.Answered.{Answered}
 use Rattle.ask.specs.declared.Answered.TheVariants.{Record, Refused}
 use Rattle.ask.specs.Answered.{answered_answer, place_answered}
@@ -24,4 +24,4 @@ answered_one (Record x n g) (Record y m h) e p =
     ∙ ap (answered y m h.wn.0) times
 answered_one (Record x n g) (Refused w) e p = absurd (let z : ◌≡◌ {A = ℕ} 0 1 = cc in omega arith)
 answered_one (Refused v) (Record y m h) e p = absurd (let z : ◌≡◌ {A = ℕ} 0 1 = cc in omega arith)
-answered_one (Refused v) (Refused w) e p = let n : refusal_number v ≡ refusal_number w = cc in ap Refused (same-refusal v w n)
+answered_one (Refused v) (Refused w) e p = let n : refusal_number v ≡ refusal_number w = cc in ap Refused (same_refusal v w n)

@@ -19,7 +19,7 @@ use Rattle.paper.proofs.StoreFacts.{store_facts}
 use Rattle.paper.proofs.Views.{back_below}
 use Rattle.lookup.specs.Candidate.{place_of}
 use Rattle.lookup.proofs.Places.{place_inside, place_data}
-use Rattle.refusals.proofs.Answers.{done-number, refused-part}
+use Rattle.refusals.proofs.Answers.{done_number, refused_part}
 use Rattle.ask.specs.Answered.{ask_place}
 use Rattle.ask.proofs.Enough.{answering_slot}
 
@@ -32,7 +32,7 @@ module _ (f : Family) (sat : ℕ) (room : List ℕ) where
   -- beside a refusal, the empty slice
   pub no_data : (k : ℕ) → refused k ≡ ask_answer f sat room → [] ≡ ask_data f sat room
   unfolding ask_data ask_answer
-  no_data k e = refused-part k (ask_number f sat room) _ _ e
+  no_data k e = refused_part k (ask_number f sat room) _ _ e
 
   -- what an asking that is answered 0 has passed
   record Passed : Type 0 where
@@ -51,7 +51,7 @@ module _ (f : Family) (sat : ℕ) (room : List ℕ) where
   module _ (v : List ℕ) (place : ℕ) (e : done v ≡ ask_answer f sat room) (p : place ≡ ask_place f sat room) where
     number_0 : ask_number f sat room ≡ 0
     unfolding ask_answer
-    number_0 = done-number (ask_number f sat room) _ v e
+    number_0 = done_number (ask_number f sat room) _ v e
 
     P : Passed
     P = passed number_0

@@ -1,5 +1,7 @@
 // Asking (STORE 12): from the current row backward around the ring, the satellite's first record with a count that is enough, and
 // the time of its row less 30 s for each of its least age. `ask` is the one path of every asking.
+#![tactic(auto)]
+
 ghost use Rattle.std.specs.Prelude.{◌≡◌, ◌&&◌, ◌+◌, ◌≤◌, ◌<◌, ltb, eqb, pos, neg_ℤ, length};
 ghost use Rattle.paper.specs.Parts.{part};
 ghost use Rattle.paper.specs.Record.{family_if, ages_at, size, ages_of, oldest, least};
@@ -36,6 +38,7 @@ pub enum Answered {
     Refused(Refusal),
 }
 
+#[tactic(auto, unfolding(paper::specs::Ask::has_enough))]
 fn has_enough(head: &[u8], sat: u8) -> bool
     requires { ages_at ≤ length head.now }
     ensures { result ≡ has_enough sat head.now }
@@ -47,6 +50,7 @@ fn has_enough(head: &[u8], sat: u8) -> bool
 }
 
 // The first slot of a row that answers.
+#[tactic(auto, unfolding(paper::specs::Ask::enough_slot))]
 fn enough_slot(row: &[u8], n: usize, timing: bool, sat: u8) -> Found
     requires { (n < 256) × (row_size n ≤ length row.now) }
     ensures { result ≡ found n (enough_slot (family_if timing) sat n row.now) }
@@ -77,6 +81,7 @@ fn row_answers(row: &[u8], n: usize, timing: bool, sat: u8) -> bool
 }
 
 // How many rows back the first row that answers lies.
+#[tactic(auto, unfolding(paper::specs::Ask::steps_back))]
 fn steps_back(room: &[u8], timing: bool, sat: u8) -> Found
     requires { InRange room.now }
     ensures { result ≡ found (depth room.now) (steps_back (family_if timing) sat room.now) }
@@ -154,6 +159,7 @@ fn subframes_back(age: u8) -> i32
 }
 
 // STORE 12.3: the row's subframe less 30 s for each of the least age, for the row and the record that start there
+#[tactic(auto, unfolding(paper::specs::Ask::time_before))]
 fn time_before(room: &[u8], row: usize, at: usize, timing: bool) -> NewTime
     requires { (row + head_size ≤ length room.now) × (at + size (family_if timing) ≤ length room.now) }
     ensures { time_answer result
@@ -170,6 +176,7 @@ fn time_before(room: &[u8], row: usize, at: usize, timing: bool) -> NewTime
 }
 
 // STORE 14.2, asking: 3, 4, 12, 24, 7
+#[tactic(auto, unfolding(paper::specs::Answer::ask_answer, paper::specs::Answer::ask_number, crate::specs::Answered::ask_place))]
 pub fn ask(room: &[u8], timing: bool, svn: Svn) -> Answered
     ensures { (answered_answer result ≡ ask_answer (family_if timing) svn.0 room.now)
         × (place_answered result ≡ ask_place (family_if timing) svn.0 room.now) }

@@ -1,5 +1,7 @@
 // STORE 14.2: the tests of each entry on its own input, in their order, before anything is done. Each answers with the reply that
 // the call gives up to there.
+#![tactic(auto)]
+
 ghost use Rattle.std.specs.Prelude.{◌≡◌};
 ghost use Rattle.paper.specs.Answer.{fresh_answer, feed_answer};
 ghost use Rattle.refusals.specs.Reply.{reply_answer};
@@ -11,6 +13,7 @@ use refusals::{Refusal, Reply};
 use svn::Svn;
 
 // fresh: 1, 2
+#[tactic(auto, unfolding(paper::specs::Answer::fresh_number))]
 pub fn fresh_entry(room: &[u8], d: u8, n: u8, rule: u8) -> Reply
     ensures { reply_answer result ≡ fresh_answer d n rule room.now }
 {
@@ -25,6 +28,7 @@ pub fn fresh_entry(room: &[u8], d: u8, n: u8, rule: u8) -> Reply
 }
 
 // word: 3, 4, 5, 8, 9, 15
+#[tactic(auto, unfolding(paper::specs::Answer::feed_number))]
 pub fn feed_entry(room: &[u8], word: &[u8], svn: Svn, gst: Gst, band: u8) -> Reply
     ensures { reply_answer result ≡ feed_answer word.now svn.0 gst.wn.0 gst.tow.0 band room.now }
 {
@@ -51,6 +55,7 @@ pub fn feed_entry(room: &[u8], word: &[u8], svn: Svn, gst: Gst, band: u8) -> Rep
 }
 
 // 3, 4, 5, 6: what a tag and the candidate test first
+#[tactic(auto, unfolding(crate::specs::Mack::mack_number))]
 pub fn mack_entry(room: &[u8], svn: Svn, gst: Gst) -> Reply
     ensures { reply_answer result ≡ mack_answer svn.0 gst.tow.0 room.now }
 {

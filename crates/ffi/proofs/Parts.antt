@@ -15,7 +15,7 @@ use Rattle.paper.specs.Answer.{candidate_number, candidate_answer, candidate_dat
 use Rattle.paper.proofs.Parts.{length_part}
 use Rattle.refusals.specs.Reply.{refusal_number}
 use Rattle.refusals.specs.declared.Refusal.{Refusal}
-use Rattle.refusals.proofs.Answers.{above_zero, refused-number, done-number}
+use Rattle.refusals.proofs.Answers.{above_zero, refused_number, done_number}
 use Rattle.tags.specs.Candidates.{Placed}
 use Rattle.tags.specs.declared.Candidate.{Candidate}
 use Rattle.tags.specs.declared.Candidate.TheVariants.{At, Refused}
@@ -50,7 +50,7 @@ module _ (sat kind cop w t : ℕ) (room : List ℕ) (r : Candidate) (p : Placed 
   shown_part x q o b eo eb =
       let there = (placed_as (cop_allowed cop) (kind_known kind) sat kind cop w t room r p (At x) q).1 in
       let shown = shown_at sat kind cop w t room r p x q in
-      let none : candidate_number sat kind cop w t room ≡ 0 = done-number _ [] [] shown.0 in
+      let none : candidate_number sat kind cop w t room ≡ 0 = done_number _ [] [] shown.0 in
       let long : data_bytes (family_of kind) ≡ length (candidate_data sat kind cop w t room) =
       sym (data_length (family_of kind) x room there.inside) ∙ ap length shown.1 in
       (rw (none, eo, eb, ← long, ← there.place), rw (eo, eb) shown.1)
@@ -60,7 +60,7 @@ module _ (sat kind cop w t : ℕ) (room : List ℕ) (r : Candidate) (p : Placed 
   unfolding candidate_offset
   shown_nothing why q n en =
       let shown = shown_refused sat kind cop w t room r p why q in
-      let k : candidate_number sat kind cop w t room ≡ refusal_number why = refused-number _ _ [] shown.0 in
+      let k : candidate_number sat kind cop w t room ≡ refusal_number why = refused_number _ _ [] shown.0 in
       let o : 0 ≡ candidate_offset sat kind cop w t room = rw k (no_offset (refusal_number why) _ (above_zero why)) in
       (rw (en, ← shown.0, ← o, ← shown.1), shown.1)
 
@@ -74,7 +74,7 @@ module _ (f : Family) (sat : ℕ) (room : List ℕ) where
       → Tells (record { number = n; authbits = 0; week = 0; time = 0; offset = 0; bytes = 0 })
   unfolding ask_offset ask_answer
   told_nothing why e n en =
-      let k : ask_number f sat room ≡ refusal_number why = refused-number _ _ _ e in
+      let k : ask_number f sat room ≡ refusal_number why = refused_number _ _ _ e in
       let o : 0 ≡ ask_offset f sat room = rw k (no_offset (refusal_number why) _ (above_zero why)) in
       let d : [] ≡ ask_data f sat room = no_data f sat room (refusal_number why) e in
       (rw (en, ← e, ← o, ← d), d)
@@ -85,6 +85,6 @@ module _ (f : Family) (sat : ℕ) (room : List ℕ) where
   unfolding ask_offset ask_answer
   told_part n w t x e p o b eo eb =
       let there = answer_there f sat room _ x e p in
-      let none : ask_number f sat room ≡ 0 = done-number _ _ _ e in
+      let none : ask_number f sat room ≡ 0 = done_number _ _ _ e in
       let long : data_bytes f ≡ length (ask_data f sat room) = sym (data_length f x room there.inside) ∙ ap length there.bytes in
       (rw (← e, none, eo, eb, ← long, ← p), rw (eo, eb) there.bytes)

@@ -1,4 +1,6 @@
 // The lines of the bench program (STORE 17): what an item asks for, and an answer as one line of text.
+#![tactic(auto)]
+
 ghost use Rattle.std.specs.Prelude.{◌≡◌, ◌∷◌, ◌+◌, ◌*◌, ◌≤◌, length};
 ghost use Rattle.paper.specs.Number.{number, values};
 ghost use Rattle.paper.specs.Record.{CED, data_bytes};
@@ -46,7 +48,7 @@ pub enum Kind {
 }
 
 // An answer before it is text.
-#[derive(Drop)]
+#[derive(Clone, Copy)]
 pub enum Outcome {
     // the number of the refusal
     Refused(u8),
@@ -60,6 +62,7 @@ pub enum Outcome {
 
 impl Kind {
     // What an item asks for, by its kind byte.
+    #[tactic(auto, unfolding(crate::specs::Kinds::kind_of))]
     pub fn of(byte: u8) -> Kind
         ensures { result ≡ kind_of byte }
     {
@@ -131,6 +134,7 @@ fn put_spaced(out: &mut [u8], at: usize, x: u32) -> usize
 }
 
 // Count, week and time.
+#[tactic(auto, unfolding(crate::specs::Lines::numbers_text))]
 fn put_numbers(out: &mut [u8], at: usize, count: u16, gst: Gst) -> usize
     requires { at + most_numbers ≤ length out.old }
     ensures { (Put out.old at (numbers_text count gst.wn.0 gst.tow.0) out.new result) × (result ≤ at + most_numbers) }
@@ -143,6 +147,7 @@ fn put_numbers(out: &mut [u8], at: usize, count: u16, gst: Gst) -> usize
 }
 
 // A space, and the satellite as E and two digits.
+#[tactic(auto, unfolding(paper::specs::Satellite::letters_of))]
 fn put_satellite(out: &mut [u8], at: usize, svn: Svn) -> usize
     requires { at + most_satellite ≤ length out.old }
     ensures { (Put out.old at (32 ∷ letters_of svn.0) out.new result) × (result ≤ at + most_satellite) }
@@ -163,6 +168,7 @@ fn put_data(out: &mut [u8], at: usize, data: &[u8]) -> usize
 }
 
 // Satellite, count, week, time and hex.
+#[tactic(auto, unfolding(crate::specs::Lines::reading_text))]
 fn put_reading(out: &mut [u8], at: usize, svn: Svn, count: u16, gst: Gst, data: &[u8]) -> usize
     requires { at + most_reading (length «data».now) ≤ length out.old }
     ensures { (Put out.old at (reading_text svn.0 count gst.wn.0 gst.tow.0 «data».now) out.new result)
@@ -188,6 +194,7 @@ fn put_values(out: &mut [u8], at: usize, svn: Svn, outcome: Outcome, data: &[u8]
 }
 
 // The line for an answer.
+#[tactic(auto, unfolding(crate::specs::Lines::line_of))]
 pub fn put_line(
     out: &mut [u8],
     at: usize,

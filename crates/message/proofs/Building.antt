@@ -14,7 +14,7 @@ use Rattle.refusals.specs.Reply.{refusal_number, reply_answer}
 use Rattle.refusals.specs.declared.Refusal.{Refusal}
 use Rattle.refusals.specs.declared.Reply.{Reply}
 use Rattle.refusals.specs.declared.Reply.TheVariants.{Refused}
-use Rattle.refusals.proofs.Answers.{done-room, refuses, refused-number, answer-refused, above_zero}
+use Rattle.refusals.proofs.Answers.{done_room, refuses, refused_number, answer_refused, above_zero}
 use Rattle.message.specs.Heads.{head_number}
 use Rattle.message.proofs.Sizes.{head_bytes_and_two, head_most, data_but_three, data_least, data_most, bytes_sum}
 use Rattle.message.proofs.Joined.{head_digits, head_small}
@@ -27,8 +27,8 @@ pub not_built : (form : ℕ) (h : Head) (bytes buffer : List ℕ) (r : Reply) (w
 unfolding build_answer build_buffer
 not_built form h bytes buffer r w q e =
     let n = build_number form h bytes buffer in
-    let k : n ≡ refusal_number w = refused-number (refusal_number w) n [] (ap reply_answer (sym q) ∙ e) in (
-      sym (ap (λ (i : ℕ). answer i (message_bytes form ∷ [])) k ∙ answer-refused (refusal_number w) (message_bytes form ∷ []) (above_zero w)),
+    let k : n ≡ refusal_number w = refused_number (refusal_number w) n [] (ap reply_answer (sym q) ∙ e) in (
+      sym (ap (λ (i : ℕ). answer i (message_bytes form ∷ [])) k ∙ answer_refused (refusal_number w) (message_bytes form ∷ []) (above_zero w)),
       refuses r w n [] (on_part (λ (_ : List ℕ). message form h bytes) 0 (message_bytes form) buffer) buffer q e,
     )
 
@@ -72,5 +72,5 @@ module _ (form : ℕ) (h : Head) (bytes buffer : List ℕ) (zero : build_number 
         rw (zero, eb),
         el
             ∙ part_back (λ (_ : List ℕ). message form h bytes) 0 (message_bytes form) (b - 0) buffer y same m
-            ∙ done-room (build_number form h bytes buffer) (on_part (λ (_ : List ℕ). message form h bytes) 0 (message_bytes form) buffer) buffer zero,
+            ∙ done_room (build_number form h bytes buffer) (on_part (λ (_ : List ℕ). message form h bytes) 0 (message_bytes form) buffer) buffer zero,
       )

@@ -14,7 +14,7 @@ use Rattle.paper.specs.Message.{Head, form_family, head_width, message_bytes, me
 use Rattle.paper.specs.Message.{carried, clean, bits_from, read_head, read_data, read_number, read_answer, read_buffer}
 use Rattle.paper.proofs.Parts.{on_part_part}
 use Rattle.packing.proofs.Rows.{bytes_length}
-use Rattle.refusals.proofs.Answers.{done-number, done-room}
+use Rattle.refusals.proofs.Answers.{done_number, done_room}
 use Rattle.message.proofs.Passed.{build_passed}
 use Rattle.message.proofs.Reading.{lengths_passed, zero_read}
 use Rattle.message.proofs.Trips.{message_length}
@@ -36,7 +36,7 @@ pub record ReadRan (form : ℕ) (m buffer after : List ℕ) (x : Answer) : Type 
 module _ (form : ℕ) (h : Head) (given buffer after : List ℕ) (n : ℕ) (ran : BuildRan form h given buffer after (done (n ∷ []))) where
   zero : build_number form h given buffer ≡ 0
   unfolding build_answer
-  zero = done-number (build_number form h given buffer) (message_bytes form ∷ []) (n ∷ []) ran.answers
+  zero = done_number (build_number form h given buffer) (message_bytes form ∷ []) (n ∷ []) ran.answers
 
   as_many : n ≡ message_bytes form
   unfolding build_answer
@@ -48,7 +48,7 @@ module _ (form : ℕ) (h : Head) (given buffer after : List ℕ) (n : ℕ) (ran 
       let p = build_passed form h given buffer zero in
       let f : List ℕ → List ℕ = λ (_ : List ℕ). message form h given in
       ap (take n) ran.leaves
-      ∙ rw (as_many, ← done-room (build_number form h given buffer) (on_part f 0 (message_bytes form) buffer) buffer zero)
+      ∙ rw (as_many, ← done_room (build_number form h given buffer) (on_part f 0 (message_bytes form) buffer) buffer zero)
       (on_part_part f (message_bytes form) (λ r e. message_length form h given) 0 buffer (omega (arith, p.with_room)))
 
   -- what reading it back answers and leaves, in any buffer that the data fits
@@ -74,7 +74,7 @@ two_carry form h given buffer after n ran form' g other lent left k ran' same-fo
 module _ (form : ℕ) (m buffer after : List ℕ) (h : Head) (ran : ReadRan form m buffer after (done (head_values h))) where
   no_refusal : read_number form m buffer ≡ 0
   unfolding read_answer
-  no_refusal = done-number (read_number form m buffer) (head_values (read_head form m)) (head_values h) ran.answers
+  no_refusal = done_number (read_number form m buffer) (head_values (read_head form m)) (head_values h) ran.answers
 
   its_fields : h ≡ read_head form m
   unfolding read_answer
@@ -96,7 +96,7 @@ module _ (form : ℕ) (m buffer after : List ℕ) (h : Head) (ran : ReadRan form
       let f : List ℕ → List ℕ = λ (_ : List ℕ). read_data form m in
       let room = (lengths_passed form m buffer (zero_read form m buffer no_refusal).0).1 in
       ap (take n) ran.leaves
-      ∙ rw (← done-room (read_number form m buffer) (on_part f 0 n buffer) buffer no_refusal)
+      ∙ rw (← done_room (read_number form m buffer) (on_part f 0 n buffer) buffer no_refusal)
       (on_part_part f n (λ r e. bytes_length n (bits_from m (head_width form) (record_bits (form_family form)))) 0 buffer (omega (arith, room)))
 
   -- what building it again answers and leaves, of a head that carries these fields, in any buffer that the message fits

@@ -3,7 +3,7 @@ use native.Mathlib.Omega.{arith}
 use mathlib.Core.Path.{◌≡◌, refl, ap}
 use Prim.Native.Nat.{ℕ}
 use Rattle.paper.specs.Number.{number}
-use Rattle.refusals.proofs.Answers.{same-refusal, above_zero, never-theirs}
+use Rattle.refusals.proofs.Answers.{same_refusal, above_zero, never_theirs}
 use Rattle.message.specs.declared.Heading.{Heading}
 use Rattle.message.specs.declared.Built.{Built}
 use Rattle.message.specs.declared.Built.TheVariants.{Message as built, Refused as not_built}
@@ -13,7 +13,7 @@ use Rattle.message.specs.Outcome.{built_answer, read_back_answer}
 
 pub built_one : (r r' : Built) → built_answer r ≡ built_answer r' → r ≡ r'
 built_one (built b) (built b') e = let n : b ≡ b' = cc in ap built n
-built_one (not_built v) (not_built w) e = ap not_built (same-refusal v w (ap number e))
+built_one (not_built v) (not_built w) e = ap not_built (same_refusal v w (ap number e))
 built_one (built b) (not_built w) e = absurd (omega (arith, ap number e, above_zero w))
 built_one (not_built v) (built b) e = absurd (omega (arith, ap number e, above_zero v))
 
@@ -39,10 +39,10 @@ read_one (read g) (read h) e =
     let s : g.status ≡ h.status = cc in
     λ i. read (heading (p i) (a i) (w i) (t i) (c i) (s i))
 read_one PaddingSet PaddingSet e = refl
-read_one (not_read v) (not_read w) e = ap not_read (same-refusal v w (ap number e))
+read_one (not_read v) (not_read w) e = ap not_read (same_refusal v w (ap number e))
 read_one (read g) PaddingSet e = absurd (omega (arith, ap number e))
 read_one (read g) (not_read w) e = absurd (omega (arith, ap number e, above_zero w))
 read_one PaddingSet (read h) e = absurd (omega (arith, ap number e))
-read_one PaddingSet (not_read w) e = absurd (omega (arith, ap number e, (never-theirs w).2))
+read_one PaddingSet (not_read w) e = absurd (omega (arith, ap number e, (never_theirs w).2))
 read_one (not_read v) (read h) e = absurd (omega (arith, ap number e, above_zero v))
-read_one (not_read v) PaddingSet e = absurd (omega (arith, ap number e, (never-theirs v).2))
+read_one (not_read v) PaddingSet e = absurd (omega (arith, ap number e, (never_theirs v).2))

@@ -24,7 +24,7 @@ use Rattle.refusals.specs.Reply.{refusal_number, reply_answer}
 use Rattle.refusals.specs.declared.Refusal.{Refusal}
 use Rattle.refusals.specs.declared.Reply.{Reply}
 use Rattle.refusals.specs.declared.Reply.TheVariants.{Refused}
-use Rattle.refusals.proofs.Answers.{done-room, refused-number, refused-room, answer-refused, above_zero}
+use Rattle.refusals.proofs.Answers.{done_room, refused_number, refused_room, answer_refused, above_zero}
 use Rattle.message.specs.Heads.{head_from}
 use Rattle.message.specs.Outcome.{well_long, lengths_number, fields_number}
 use Rattle.message.proofs.Sizes.{head_bytes_and_two, head_most, data_but_three, data_least, data_most, bytes_sum, one_left}
@@ -73,15 +73,15 @@ module _ (form : ℕ) (m buffer : List ℕ) where
   unfolding read_answer read_buffer
   not_read k h e =
       let v = head_values (read_head form m) in
-      let a : answer (read_number form m buffer) v ≡ refused k = ap (λ (n : ℕ). answer n v) e ∙ answer-refused k v h in (
+      let a : answer (read_number form m buffer) v ≡ refused k = ap (λ (n : ℕ). answer n v) e ∙ answer_refused k v h in (
         sym a,
-        refused-room k (read_number form m buffer) v (on_part (λ (_ : List ℕ). read_data form m) 0 (data_bytes (form_family form)) buffer) buffer (sym a),
+        refused_room k (read_number form m buffer) v (on_part (λ (_ : List ℕ). read_data form m) 0 (data_bytes (form_family form)) buffer) buffer (sym a),
       )
 
   pub lengths_refuse : (r : Reply) (w : Refusal) → r ≡ Refused w → reply_answer r ≡ answer (lengths_number form m buffer) []
       → (refused (refusal_number w) ≡ read_answer form m buffer) × (buffer ≡ read_buffer form m buffer)
   lengths_refuse r w q e =
-      let k : lengths_number form m buffer ≡ refusal_number w = refused-number (refusal_number w) _ [] (ap reply_answer (sym q) ∙ e) in
+      let k : lengths_number form m buffer ≡ refusal_number w = refused_number (refusal_number w) _ [] (ap reply_answer (sym q) ∙ e) in
       not_read (refusal_number w) (above_zero w) (read_order form m buffer ∙ rw k (stops (refusal_number w) _ (above_zero w)))
 
   pub fields_refuse : lengths_number form m buffer ≡ 0 → (h : Head) → h ≡ read_head form m
@@ -89,7 +89,7 @@ module _ (form : ℕ) (m buffer : List ℕ) where
       → (refused (refusal_number w) ≡ read_answer form m buffer) × (buffer ≡ read_buffer form m buffer)
   fields_refuse z h eh r w q e =
       let k : fields_number form (read_head form m) ≡ refusal_number w =
-      ap (fields_number form) (sym eh) ∙ refused-number (refusal_number w) _ [] (ap reply_answer (sym q) ∙ e) in
+      ap (fields_number form) (sym eh) ∙ refused_number (refusal_number w) _ [] (ap reply_answer (sym q) ∙ e) in
       not_read (refusal_number w) (above_zero w)
       (read_order form m buffer ∙ goes_on (lengths_number form m buffer) _ z ∙ rw k (stops (refusal_number w) _ (above_zero w)))
 
@@ -199,5 +199,5 @@ module _ (form : ℕ) (m buffer : List ℕ) where
         rw (zero, eh),
         el
             ∙ part_back (λ (_ : List ℕ). read_data form m) 0 (data_bytes (form_family form)) (d - 0) buffer y same data_is
-            ∙ done-room (read_number form m buffer) (on_part (λ (_ : List ℕ). read_data form m) 0 (data_bytes (form_family form)) buffer) buffer zero,
+            ∙ done_room (read_number form m buffer) (on_part (λ (_ : List ℕ). read_data form m) 0 (data_bytes (form_family form)) buffer) buffer zero,
       )

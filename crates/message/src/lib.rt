@@ -1,5 +1,7 @@
 // The message under a tag (STORE 21): built from the fields in front of the data and the data into a lent buffer, and read back. The fields
 // together are one number, of 58 bits or in tag 0 of 50; the data stands behind it.
+#![tactic(auto)]
+
 ghost use Rattle.std.specs.Prelude.{◌≡◌, ◌&&◌, cond, [], ◌/◌, ◌^◌, ◌<◌, eqb, leb};
 ghost use Rattle.paper.specs.Number.{answer};
 ghost use Rattle.paper.specs.Parts.{Bytes};
@@ -65,7 +67,7 @@ const STATUSES: u64 = 1 << STATUS_BITS;
 
 // What stands in front of the data: the data's satellite, the sender, the time, the tag's counter and the status. A public field can hold
 // any number, so building tests them all. Of a tag 0, which does not carry it, the data's satellite is read as 0.
-#[derive(Drop)]
+#[derive(Clone, Copy)]
 pub struct Heading {
     pub prnd: Svn,
     pub prna: Svn,
@@ -153,6 +155,7 @@ fn are_allowed(form: u8, counter: u32, given: usize, room: usize) -> bool
 }
 
 // building: 4, 5, 6, 9, 7, 8
+#[tactic(auto, unfolding(paper::specs::Message::build_number))]
 fn build_entry(out: &[u8], form: u8, h: Heading, given: &[u8]) -> Reply
     ensures { reply_answer result ≡ answer (build_number form (head_of h) given.now out.now) [] }
 {
@@ -219,6 +222,7 @@ pub fn build(out: &mut [u8], form: u8, h: Heading, given: &[u8]) -> Built
 }
 
 // The fields of such a number.
+#[tactic(auto, unfolding(crate::specs::Heads::head_from))]
 fn heading_of(head: u64) -> Heading
     requires { head < 2 ^ 58 }
     ensures { head_of result ≡ head_from head }
@@ -240,6 +244,7 @@ fn heading_of(head: u64) -> Heading
 }
 
 // reading back: 9, 8
+#[tactic(auto, unfolding(crate::specs::Outcome::lengths_number))]
 fn lengths_entry(out: &[u8], form: u8, message: &[u8]) -> Reply
     ensures { reply_answer result ≡ answer (lengths_number form message.now out.now) [] }
 {
@@ -269,6 +274,7 @@ fn satellites_read(form: u8, h: Heading) -> bool
 }
 
 // reading back: 4, 5, 6, 8
+#[tactic(auto, unfolding(crate::specs::Outcome::fields_number))]
 fn fields_entry(form: u8, h: Heading) -> Reply
     ensures { reply_answer result ≡ answer (fields_number form (head_of h)) [] }
 {

@@ -20,7 +20,7 @@ use Rattle.refusals.specs.Reply.{refusal_number, reply_answer}
 use Rattle.refusals.specs.declared.Refusal.{Refusal}
 use Rattle.refusals.specs.declared.Reply.{Reply}
 use Rattle.refusals.specs.declared.Reply.TheVariants.{Done, Refused}
-use Rattle.refusals.proofs.Answers.{refuses, does, done-room}
+use Rattle.refusals.proofs.Answers.{refuses, does, done_room}
 
 pub refused_pair : (r : Reply) (w : Refusal) (k : ℕ) (after room : List ℕ) → r ≡ Refused w → reply_answer r ≡ answer k []
     → (refused (refusal_number w) ≡ answer k []) × (room ≡ room_for k after room)
@@ -28,7 +28,7 @@ refused_pair r w k after room q e = (ap reply_answer (sym q) ∙ e, refuses r w 
 
 pub done_pair : (r : Reply) (k : ℕ) (after out room : List ℕ) → r ≡ Done → reply_answer r ≡ answer k [] → out ≡ after
     → (done [] ≡ answer k []) × (out ≡ room_for k after room)
-done_pair r k after out room q e o = (ap reply_answer (sym q) ∙ e, o ∙ done-room k after room (does r k [] q e))
+done_pair r k after out room q e o = (ap reply_answer (sym q) ∙ e, o ∙ done_room k after room (does r k [] q e))
 
 -- a word that is answered 0: what the room's half asks
 pub fed_passed : (word : List ℕ) (sat w t band : ℕ) (room : List ℕ) → feed_number word sat w t band room ≡ 0

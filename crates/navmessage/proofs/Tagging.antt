@@ -10,7 +10,7 @@ use Rattle.paper.specs.Tag.{family_of, cop_allowed, length_allowed, kind_known, 
 use Rattle.paper.specs.Answer.{room_for, until_candidate, from_candidate, tag_number, tag_answer, tag_room}
 use Rattle.refusals.specs.Reply.{refusal_number}
 use Rattle.refusals.specs.declared.Refusal.{Refusal}
-use Rattle.refusals.proofs.Answers.{above_zero, answer-refused, refused-room}
+use Rattle.refusals.proofs.Answers.{above_zero, answer_refused, refused_room}
 use Rattle.tags.specs.Candidates.{Placed, accepted_answer, accepted_room}
 use Rattle.tags.specs.declared.Candidate.{Candidate}
 use Rattle.tags.specs.declared.Candidate.TheVariants.{At, Refused}
@@ -42,8 +42,8 @@ module _ (allowed known : Bool) (sat kind cop l status w t : ℕ) (given : List 
       let n = number_is (λ (later : ℕ). refusal_number why) (known_as (Refused why) q) in
       let v : List ℕ = taken_by (family_of kind) (candidate_record (family_of kind) sat w t room) room ∷ [] in
       let e : refused (refusal_number why) ≡ answer (tag_number sat kind cop l status w t given verdict room) v =
-      sym (ap (λ (k : ℕ). answer k v) n ∙ answer-refused (refusal_number why) v (above_zero why)) in
-      (e, refused-room (refusal_number why) (tag_number sat kind cop l status w t given verdict room) v _ room e)
+      sym (ap (λ (k : ℕ). answer k v) n ∙ answer_refused (refusal_number why) v (above_zero why)) in
+      (e, refused_room (refusal_number why) (tag_number sat kind cop l status w t given verdict room) v _ room e)
 
   pub tag_at_candidate : (x : ℕ) (a : Answer) (out : List ℕ) → r ≡ At x
       → a ≡ accepted_answer (family_of kind) given (part x (size (family_of kind)) room) verdict status room

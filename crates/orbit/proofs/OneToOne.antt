@@ -4,7 +4,7 @@ use native.Mathlib.Omega.{arith}
 use mathlib.Core.Path.{◌≡◌, refl, sym, ap, ◌∙◌}
 use Prim.Native.Nat.{ℕ}
 use Rattle.paper.specs.Number.{number}
-use Rattle.refusals.proofs.Answers.{same-refusal, above_zero, never-theirs}
+use Rattle.refusals.proofs.Answers.{same_refusal, above_zero, never_theirs}
 use Rattle.gst.specs.declared.Gst.{Gst}
 use Rattle.orbit.specs.declared.Orbit.{Orbit}
 use Rattle.orbit.specs.declared.TimingNumbers.{TimingNumbers}
@@ -32,19 +32,19 @@ placed_one (At x n g) (At y m h) e p =
     λ i. At (p i) (counts i) (same_time g h weeks times i)
 placed_one placed_21 placed_21 e p = refl
 placed_one placed_22 placed_22 e p = refl
-placed_one (placed_refused v) (placed_refused w) e p = ap placed_refused (same-refusal v w (ap number e))
+placed_one (placed_refused v) (placed_refused w) e p = ap placed_refused (same_refusal v w (ap number e))
 placed_one (At x n g) placed_21 e p = absurd (omega (arith, ap number e))
 placed_one (At x n g) placed_22 e p = absurd (omega (arith, ap number e))
 placed_one (At x n g) (placed_refused w) e p = absurd (omega (arith, ap number e, above_zero w))
 placed_one placed_21 (At y m h) e p = absurd (omega (arith, ap number e))
 placed_one placed_21 placed_22 e p = absurd (omega (arith, ap number e))
-placed_one placed_21 (placed_refused w) e p = absurd (omega (arith, ap number e, (never-theirs w).0))
+placed_one placed_21 (placed_refused w) e p = absurd (omega (arith, ap number e, (never_theirs w).0))
 placed_one placed_22 (At y m h) e p = absurd (omega (arith, ap number e))
 placed_one placed_22 placed_21 e p = absurd (omega (arith, ap number e))
-placed_one placed_22 (placed_refused w) e p = absurd (omega (arith, ap number e, (never-theirs w).1))
+placed_one placed_22 (placed_refused w) e p = absurd (omega (arith, ap number e, (never_theirs w).1))
 placed_one (placed_refused v) (At y m h) e p = absurd (omega (arith, ap number e, above_zero v))
-placed_one (placed_refused v) placed_21 e p = absurd (omega (arith, ap number e, (never-theirs v).0))
-placed_one (placed_refused v) placed_22 e p = absurd (omega (arith, ap number e, (never-theirs v).1))
+placed_one (placed_refused v) placed_21 e p = absurd (omega (arith, ap number e, (never_theirs v).0))
+placed_one (placed_refused v) placed_22 e p = absurd (omega (arith, ap number e, (never_theirs v).1))
 
 pub orbit_one : (r r' : GotOrbit) → got_answer r ≡ got_answer r' → got_orbit r ≡ got_orbit r' → r ≡ r'
 orbit_one (Found n g o) (Found m h q) e p =
@@ -54,19 +54,19 @@ orbit_one (Found n g o) (Found m h q) e p =
     λ i. Found (counts i) (same_time g h weeks times i) (p i)
 orbit_one IssuesDiffer IssuesDiffer e p = refl
 orbit_one OtherSatellite OtherSatellite e p = refl
-orbit_one (Refused v) (Refused w) e p = ap Refused (same-refusal v w (ap number e))
+orbit_one (Refused v) (Refused w) e p = ap Refused (same_refusal v w (ap number e))
 orbit_one (Found n g o) IssuesDiffer e p = absurd (omega (arith, ap number e))
 orbit_one (Found n g o) OtherSatellite e p = absurd (omega (arith, ap number e))
 orbit_one (Found n g o) (Refused w) e p = absurd (omega (arith, ap number e, above_zero w))
 orbit_one IssuesDiffer (Found m h q) e p = absurd (omega (arith, ap number e))
 orbit_one IssuesDiffer OtherSatellite e p = absurd (omega (arith, ap number e))
-orbit_one IssuesDiffer (Refused w) e p = absurd (omega (arith, ap number e, (never-theirs w).0))
+orbit_one IssuesDiffer (Refused w) e p = absurd (omega (arith, ap number e, (never_theirs w).0))
 orbit_one OtherSatellite (Found m h q) e p = absurd (omega (arith, ap number e))
 orbit_one OtherSatellite IssuesDiffer e p = absurd (omega (arith, ap number e))
-orbit_one OtherSatellite (Refused w) e p = absurd (omega (arith, ap number e, (never-theirs w).1))
+orbit_one OtherSatellite (Refused w) e p = absurd (omega (arith, ap number e, (never_theirs w).1))
 orbit_one (Refused v) (Found m h q) e p = absurd (omega (arith, ap number e, above_zero v))
-orbit_one (Refused v) IssuesDiffer e p = absurd (omega (arith, ap number e, (never-theirs v).0))
-orbit_one (Refused v) OtherSatellite e p = absurd (omega (arith, ap number e, (never-theirs v).1))
+orbit_one (Refused v) IssuesDiffer e p = absurd (omega (arith, ap number e, (never_theirs v).0))
+orbit_one (Refused v) OtherSatellite e p = absurd (omega (arith, ap number e, (never_theirs v).1))
 
 pub timing_one : (r r' : GotTiming) → got_timing_answer r ≡ got_timing_answer r' → got_timing r ≡ got_timing r' → r ≡ r'
 timing_one (timing_found n g o) (timing_found m h q) e p =
@@ -74,6 +74,6 @@ timing_one (timing_found n g o) (timing_found m h q) e p =
     let weeks : g.wn.0 ≡ h.wn.0 = cc in
     let times : g.tow.0 ≡ h.tow.0 = cc in
     λ i. timing_found (counts i) (same_time g h weeks times i) (p i)
-timing_one (timing_refused v) (timing_refused w) e p = ap timing_refused (same-refusal v w (ap number e))
+timing_one (timing_refused v) (timing_refused w) e p = ap timing_refused (same_refusal v w (ap number e))
 timing_one (timing_found n g o) (timing_refused w) e p = absurd (omega (arith, ap number e, above_zero w))
 timing_one (timing_refused v) (timing_found m h q) e p = absurd (omega (arith, ap number e, above_zero v))

@@ -11,7 +11,7 @@ use Rattle.paper.specs.Parts.{part}
 use Rattle.paper.specs.Record.{Family, CED, family_if, size, data_at, data_bytes}
 use Rattle.paper.specs.Answer.{ask_number, ask_answer, ask_data}
 use Rattle.paper.specs.Orbit.{one_issue, svid_of, numbers_tests, numbers_number, numbers_answer, numbers_data}
-use Rattle.refusals.proofs.Answers.{done-number, refused-part}
+use Rattle.refusals.proofs.Answers.{done_number, refused_part}
 use Rattle.ask.specs.Answered.{ask_place}
 use Rattle.ask.proofs.Tells.{AnswerThere, answer_there}
 use Rattle.orbit.specs.declared.Placed.{Placed}
@@ -41,7 +41,7 @@ module _ (f : Family) (sat : ℕ) (room : List ℕ) where
   module _ (v : List ℕ) (e : done v ≡ ask_answer f sat room) where
     asked : ask_number f sat room ≡ 0
     unfolding ask_answer
-    asked = done-number (ask_number f sat room) _ v e
+    asked = done_number (ask_number f sat room) _ v e
 
     number_is : numbers_number f sat room ≡ numbers_tests f sat (ask_data f sat room)
     unfolding numbers_number
@@ -68,7 +68,7 @@ module _ (f : Family) (sat : ℕ) (room : List ℕ) where
   -- beside a refusal nothing is read
   pub no_numbers : (k : ℕ) → refused k ≡ numbers_answer f sat room → [] ≡ numbers_data f sat room
   unfolding numbers_answer numbers_data
-  no_numbers k e = refused-part k (numbers_number f sat room) _ _ e
+  no_numbers k e = refused_part k (numbers_number f sat room) _ _ e
 
   -- asking was answered 0 where this is
   passed_zero : numbers_number f sat room ≡ 0 → ask_number f sat room ≡ 0
@@ -87,7 +87,7 @@ module _ (f : Family) (sat : ℕ) (room : List ℕ) where
   module _ (v : List ℕ) (place : ℕ) (e : done v ≡ numbers_answer f sat room) (p : place ≡ numbers_place f sat room) where
     number_0 : numbers_number f sat room ≡ 0
     unfolding numbers_answer
-    number_0 = done-number (numbers_number f sat room) _ v e
+    number_0 = done_number (numbers_number f sat room) _ v e
 
     ask_0 : ask_number f sat room ≡ 0
     ask_0 = passed_zero number_0

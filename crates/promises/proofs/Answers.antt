@@ -3,7 +3,7 @@ use native.Mathlib.Omega.{arith}
 use mathlib.Core.Path.{◌≡◌, ap, ◌∙◌}
 use Prim.Native.Nat.{ℕ}
 use Rattle.refusals.specs.Reply.{refusal_number}
-use Rattle.refusals.proofs.Answers.{same-refusal}
+use Rattle.refusals.proofs.Answers.{same_refusal}
 use Rattle.tags.specs.Candidates.{tagged_answer}
 use Rattle.tags.specs.declared.Tagged.{Tagged}
 use Rattle.tags.specs.declared.Tagged.TheVariants.{Taken, Refused as NotTaken}
@@ -15,7 +15,7 @@ pub same_tagged : (a b : Tagged) → tagged_answer a ≡ tagged_answer b → a �
 same_tagged (Taken n) (Taken m) e = let h : n ≡ m = cc in ap Taken h
 same_tagged (Taken n) (NotTaken w) e = absurd (let z : ◌≡◌ {A = ℕ} 0 1 = cc in omega arith)
 same_tagged (NotTaken v) (Taken m) e = absurd (let z : ◌≡◌ {A = ℕ} 0 1 = cc in omega arith)
-same_tagged (NotTaken v) (NotTaken w) e = let n : refusal_number v ≡ refusal_number w = cc in ap NotTaken (same-refusal v w n)
+same_tagged (NotTaken v) (NotTaken w) e = let n : refusal_number v ≡ refusal_number w = cc in ap NotTaken (same_refusal v w n)
 
 -- a count and a time, put together again
 found : ℕ → ℕ → ℕ → Asked
@@ -32,4 +32,4 @@ same_asked (Found x) (Found y) e =
     ∙ ap (found y.authbits y.gst.wn.0) times
 same_asked (Found x) (Refused w) e = absurd (let z : ◌≡◌ {A = ℕ} 0 1 = cc in omega arith)
 same_asked (Refused v) (Found y) e = absurd (let z : ◌≡◌ {A = ℕ} 0 1 = cc in omega arith)
-same_asked (Refused v) (Refused w) e = let n : refusal_number v ≡ refusal_number w = cc in ap Refused (same-refusal v w n)
+same_asked (Refused v) (Refused w) e = let n : refusal_number v ≡ refusal_number w = cc in ap Refused (same_refusal v w n)

@@ -4,7 +4,7 @@ use borrow.Fn.Kinds.{res_t, ended_of, Dens}
 use denote.Triple.Clauses.{AtExit}
 use contract.Lifetimes.{Lfts}
 use mathlib.Core.Path.{◌≡◌, sym, ◌∙◌}
-use Rattle.refusals.proofs.Answers.{same-reply}
+use Rattle.refusals.proofs.Answers.{same_reply}
 use Rattle.promises.proofs.Answers.{same-tagged, same_asked}
 use Rattle.navmessage.proofs.fresh.Reads as fresh
 use Rattle.navmessage.proofs.fresh.Kinds as fresh_kinds
@@ -32,14 +32,14 @@ pub fresh_determined :
     (e e' : AtExit (ended_of 1 fresh_kinds.ps fresh_kinds.r) κs)
     → fresh.Post κs a r e → fresh.Post κs a r' e'
     → (r ≡ r') × (e.0.now ≡ e'.0.now)
-fresh_determined κs a r r' e e' p q = (same-reply r r' (p.0 ∙ sym q.0), p.1 ∙ sym q.1)
+fresh_determined κs a r r' e e' p q = (same_reply r r' (p.0 ∙ sym q.0), p.1 ∙ sym q.1)
 
 pub feed_determined :
     (κs : Lfts 2) (a : Dens κs feed_kinds.ps) (r r' : (res_t feed_kinds.r κs).Denot)
     (e e' : AtExit (ended_of 2 feed_kinds.ps feed_kinds.r) κs)
     → feed.Post κs a r e → feed.Post κs a r' e'
     → (r ≡ r') × (e.0.now ≡ e'.0.now)
-feed_determined κs a r r' e e' p q = (same-reply r r' (p.0 ∙ sym q.0), p.1 ∙ sym q.1)
+feed_determined κs a r r' e e' p q = (same_reply r r' (p.0 ∙ sym q.0), p.1 ∙ sym q.1)
 
 pub tag_determined :
     (κs : Lfts 2) (a : Dens κs tag_kinds.ps) (r r' : (res_t tag_kinds.r κs).Denot)
@@ -53,7 +53,7 @@ pub candidate_determined :
     (e e' : AtExit (ended_of 1 candidate_kinds.ps candidate_kinds.r) κs)
     → candidate.Post κs a r e → candidate.Post κs a r' e'
     → r ≡ r'
-candidate_determined κs a r r' e e' p q = same-reply r r' (p ∙ sym q)
+candidate_determined κs a r r' e e' p q = same_reply r r' (p ∙ sym q)
 
 pub candidate_data_determined :
     (κs : Lfts 1) (a : Dens κs candidate_data_kinds.ps) (r r' : (res_t candidate_data_kinds.r κs).Denot)
@@ -95,4 +95,4 @@ pub reset_authbits_determined :
     (e e' : AtExit (ended_of 1 reset_authbits_kinds.ps reset_authbits_kinds.r) κs)
     → reset_authbits.Post κs a r e → reset_authbits.Post κs a r' e'
     → (r ≡ r') × (e.0.now ≡ e'.0.now)
-reset_authbits_determined κs a r r' e e' p q = (same-reply r r' (p.0 ∙ sym q.0), p.1 ∙ sym q.1)
+reset_authbits_determined κs a r r' e e' p q = (same_reply r r' (p.0 ∙ sym q.0), p.1 ∙ sym q.1)

@@ -1,6 +1,8 @@
 // The ring of rows (STORE 10.2 to 10.4): before a word's records are chosen, the current row is settled for the
 // word's subframe. Where it has another subframe, the next row takes a copy of all records, becomes current and ages, by as much as the
 // ageing rule says.
+#![tactic(auto)]
+
 ghost use Rattle.std.specs.Prelude.{◌≡◌, cond, ◌⊎◌, ◌+◌, ◌≤◌, length};
 ghost use Rattle.paper.specs.Record.{CED, Timing as TIMING, size, aged};
 ghost use Rattle.paper.specs.Room.{slot_size, row_size};
@@ -12,6 +14,7 @@ use layout::{CURRENT_AT, ROW_HEAD, SLOT, TIMING_AT};
 use records::{Ced, Timing};
 
 // STORE 10.3, the copy: forward, so that a row may be copied onto itself, as where D is 1.
+#[tactic(auto, unfolding(paper::specs::Feed::copied))]
 pub fn copy_records(room: &mut [u8], n: usize, from: usize, to: usize)
     requires fact { (to ≤ from) ⊎ (from + row_size n ≤ to) }
     requires n_in_bounds { (from + row_size n ≤ length room.old) × (to + row_size n ≤ length room.old) }
@@ -109,6 +112,7 @@ fn advance_for(room: &mut [u8], week: u16, time: u32)
 }
 
 // STORE 10.4: the current row marked
+#[tactic(auto, unfolding(paper::specs::Feed::current_marked))]
 fn mark_current(room: &mut [u8], week: u16, time: u32)
     requires { InRange room.old }
     ensures { room.new ≡ current_marked week time room.old }
@@ -120,6 +124,7 @@ fn mark_current(room: &mut [u8], week: u16, time: u32)
 }
 
 // The ring before the records of the current row are chosen.
+#[tactic(auto, unfolding(paper::specs::Feed::settled))]
 pub fn settle(room: &mut [u8], week: u16, time: u32)
     requires { InRange room.old }
     ensures { room.new ≡ settled week time room.old }

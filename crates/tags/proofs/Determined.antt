@@ -8,7 +8,7 @@ use mathlib.Core.Path.{ap}
 use mathlib.Core.Bool.{Bool}
 use mathlib.Core.List.{List}
 use Prim.Native.Nat.{ℕ}
-use Rattle.refusals.proofs.Answers.{same-refusal, above_zero}
+use Rattle.refusals.proofs.Answers.{same_refusal, above_zero}
 use Rattle.tags.specs.Candidates.{Placed, tagged_answer}
 use Rattle.tags.specs.declared.Candidate.{Candidate}
 use Rattle.tags.specs.declared.Candidate.TheVariants.{At, Refused}
@@ -31,7 +31,7 @@ same_place : (allowed known : Bool) (sat kind cop w t : ℕ) (room : List ℕ) (
 same_place allowed known sat kind cop w t room (At x) (At y) p q = ap At (p.1.place ∙ sym q.1.place)
 same_place allowed known sat kind cop w t room (At x) (Refused v) p q = absurd (omega (arith, p.0 0, q 0, above_zero v))
 same_place allowed known sat kind cop w t room (Refused v) (At y) p q = absurd (omega (arith, q.0 0, p 0, above_zero v))
-same_place allowed known sat kind cop w t room (Refused v) (Refused u) p q = ap Refused (same-refusal v u (sym (p 0) ∙ q 0))
+same_place allowed known sat kind cop w t room (Refused v) (Refused u) p q = ap Refused (same_refusal v u (sym (p 0) ∙ q 0))
 
 pub candidate_of_determined :
     (κs : Lfts 1) (a : Dens κs place_kinds.ps) (r r' : (res_t place_kinds.r κs).Denot)

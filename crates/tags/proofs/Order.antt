@@ -17,7 +17,7 @@ use Rattle.gst.proofs.Told.{sum_of_time}
 use Rattle.lookup.specs.declared.Found.TheVariants.{At as Here}
 use Rattle.lookup.specs.Candidate.{candidate_at}
 use Rattle.lookup.proofs.Candidate.{candidate_shown}
-use Rattle.refusals.proofs.Answers.{refused-number, above_zero}
+use Rattle.refusals.proofs.Answers.{refused_number, above_zero}
 use Rattle.refusals.specs.Reply.{refusal_number, reply_answer}
 use Rattle.refusals.specs.declared.Refusal.{Refusal}
 use Rattle.refusals.specs.declared.Reply.{Reply}
@@ -57,7 +57,7 @@ four false b c d k rest e = e
 module _ (allowed known : Bool) (sat kind cop w t : ℕ) (room : List ℕ) where
   pub mack_refused : (k : ℕ) → refused (suc k) ≡ mack_answer sat t room → (later : ℕ) → until_candidate allowed known sat kind cop w t room later ≡ suc k
   unfolding until_candidate mack_number
-  mack_refused k e later = four (is_store room) (is_satellite sat) (is_time t) (is_start t) k _ (refused-number (suc k) _ [] e)
+  mack_refused k e later = four (is_store room) (is_satellite sat) (is_time t) (is_start t) k _ (refused_number (suc k) _ [] e)
 
   pub mack_refused_by : (r : Reply) (why : Refusal) → r ≡ No why → reply_answer r ≡ mack_answer sat t room
       → (later : ℕ) → until_candidate allowed known sat kind cop w t room later ≡ refusal_number why

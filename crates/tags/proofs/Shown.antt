@@ -16,7 +16,7 @@ use Rattle.paper.proofs.Order.{unless_zero}
 use Rattle.paper.proofs.StoreFacts.{store_facts}
 use Rattle.refusals.specs.Reply.{refusal_number}
 use Rattle.refusals.specs.declared.Refusal.{Refusal}
-use Rattle.refusals.proofs.Answers.{above_zero, answer-refused, refused-part}
+use Rattle.refusals.proofs.Answers.{above_zero, answer_refused, refused_part}
 use Rattle.stays.proofs.Rooms.{candidate_satellite}
 use Rattle.tags.specs.Candidates.{Placed}
 use Rattle.tags.specs.declared.Candidate.{Candidate}
@@ -47,8 +47,8 @@ module _ (sat kind cop w t : ℕ) (room : List ℕ) (r : Candidate) (p : Placed 
   unfolding candidate_data candidate_number
   shown_refused why q =
       let e : refused (refusal_number why) ≡ candidate_answer sat kind cop w t room =
-      sym (ap (λ (k : ℕ). answer k []) (known_as (Refused why) q 0) ∙ answer-refused (refusal_number why) [] (above_zero why)) in
-      (e, refused-part (refusal_number why) (candidate_number sat kind cop w t room) [] _ e)
+      sym (ap (λ (k : ℕ). answer k []) (known_as (Refused why) q 0) ∙ answer_refused (refusal_number why) [] (above_zero why)) in
+      (e, refused_part (refusal_number why) (candidate_number sat kind cop w t room) [] _ e)
 
   pub shown_at : (x : ℕ) → r ≡ At x
       → (done [] ≡ candidate_answer sat kind cop w t room)
