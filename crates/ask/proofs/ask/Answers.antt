@@ -16,12 +16,12 @@ use Rattle.ask.proofs.ask.Goals as goal
 
 pub answering_at-requires : goal.answering_at-requires
 answering_at-requires c =
-    let a-store : is_store c.args.room.now ≡ true = sym c.is_IsStore.ensures ∙ c.if-not-is_store.false in
+    let a-store : is_store c.args.room.now ≡ true = sym c.is_store.ensures ∙ c.if-not-is_store.false in
     store_facts _ (a-store)
 
 pub returns-in_default : goal.returns-in_default
 returns-in_default c =
-    let a-store : is_store c.args.room.now ≡ true = sym c.is_IsStore.ensures ∙ c.if-not-is_store.false in
+    let a-store : is_store c.args.room.now ≡ true = sym c.is_store.ensures ∙ c.if-not-is_store.false in
     let a-satellite : is_satellite c.args.svn.0 ≡ true = sym c.is_satellite.ensures ∙ c.if-not-is_satellite.false in
     let args = c.args in
     ask_none (family_if args.timing) args.svn.0 args.room.now (sym c.answering_at.ensures ∙ c.in_default.is)
@@ -29,7 +29,7 @@ returns-in_default c =
 
 pub age_unknown-requires : goal.age_unknown-requires
 age_unknown-requires c =
-    let a-store : is_store c.args.room.now ≡ true = sym c.is_IsStore.ensures ∙ c.if-not-is_store.false in
+    let a-store : is_store c.args.room.now ≡ true = sym c.is_store.ensures ∙ c.if-not-is_store.false in
     let inside : let args = c.args in
     (c.in-At.row + head_size ≤ length args.room.now) × (c.in-At.at + size (family_if args.timing) ≤ length args.room.now) = let args = c.args in
     told_inside (family_if args.timing) args.svn.0 args.room.now _ _ (sym c.answering_at.ensures ∙ c.in-At.is)
@@ -38,7 +38,7 @@ age_unknown-requires c =
 
 pub returns-then-age_unknown : goal.returns-then-age_unknown
 returns-then-age_unknown c =
-    let a-store : is_store c.args.room.now ≡ true = sym c.is_IsStore.ensures ∙ c.if-not-is_store.false in
+    let a-store : is_store c.args.room.now ≡ true = sym c.is_store.ensures ∙ c.if-not-is_store.false in
     let a-satellite : is_satellite c.args.svn.0 ≡ true = sym c.is_satellite.ensures ∙ c.if-not-is_satellite.false in
     let args = c.args in
     ask_unknown (family_if args.timing) args.svn.0 args.room.now _ _ (sym c.answering_at.ensures ∙ c.in-At.is)
@@ -46,7 +46,7 @@ returns-then-age_unknown c =
 
 pub time_before-requires : goal.time_before-requires
 time_before-requires c =
-    let a-store : is_store c.args.room.now ≡ true = sym c.is_IsStore.ensures ∙ c.if-not-is_store.false in
+    let a-store : is_store c.args.room.now ≡ true = sym c.is_store.ensures ∙ c.if-not-is_store.false in
     let inside : let args = c.args in
     (c.in-At.row + head_size ≤ length args.room.now) × (c.in-At.at + size (family_if args.timing) ≤ length args.room.now) = let args = c.args in
     told_inside (family_if args.timing) args.svn.0 args.room.now _ _ (sym c.answering_at.ensures ∙ c.in-At.is)
@@ -55,7 +55,7 @@ time_before-requires c =
 
 pub returns-in_default-time_before : goal.returns-in_default-time_before
 returns-in_default-time_before c =
-    let a-store : is_store c.args.room.now ≡ true = sym c.is_IsStore.ensures ∙ c.if-not-is_store.false in
+    let a-store : is_store c.args.room.now ≡ true = sym c.is_store.ensures ∙ c.if-not-is_store.false in
     let a-satellite : is_satellite c.args.svn.0 ≡ true = sym c.is_satellite.ensures ∙ c.if-not-is_satellite.false in
     let time = c.time_before in
     let args = c.args in
@@ -65,7 +65,7 @@ returns-in_default-time_before c =
 
 pub overflow_add-at : goal.overflow_add-at
 overflow_add-at c =
-    let a-store : is_store c.args.room.now ≡ true = sym c.is_IsStore.ensures ∙ c.if-not-is_store.false in
+    let a-store : is_store c.args.room.now ≡ true = sym c.is_store.ensures ∙ c.if-not-is_store.false in
     let inside : let args = c.args in
     (c.in-At.row + head_size ≤ length args.room.now) × (c.in-At.at + size (family_if args.timing) ≤ length args.room.now) = let args = c.args in
     told_inside (family_if args.timing) args.svn.0 args.room.now _ _ (sym c.answering_at.ensures ∙ c.in-At.is)
@@ -74,7 +74,7 @@ overflow_add-at c =
 
 pub read16-requires : goal.read16-requires
 read16-requires c =
-    let a-store : is_store c.args.room.now ≡ true = sym c.is_IsStore.ensures ∙ c.if-not-is_store.false in
+    let a-store : is_store c.args.room.now ≡ true = sym c.is_store.ensures ∙ c.if-not-is_store.false in
     let inside : let args = c.args in
     (c.in-At.row + head_size ≤ length args.room.now) × (c.in-At.at + size (family_if args.timing) ≤ length args.room.now) = let args = c.args in
     told_inside (family_if args.timing) args.svn.0 args.room.now _ _ (sym c.answering_at.ensures ∙ c.in-At.is)
@@ -83,7 +83,7 @@ read16-requires c =
 
 pub returns : goal.returns
 returns c =
-    let a-store : is_store c.args.room.now ≡ true = sym c.is_IsStore.ensures ∙ c.if-not-is_store.false in
+    let a-store : is_store c.args.room.now ≡ true = sym c.is_store.ensures ∙ c.if-not-is_store.false in
     let a-satellite : is_satellite c.args.svn.0 ≡ true = sym c.is_satellite.ensures ∙ c.if-not-is_satellite.false in
     let args = c.args in
     ask_told (family_if args.timing) args.svn.0 args.room.now _ _ (sym c.answering_at.ensures ∙ c.in-At.is)

@@ -19,7 +19,7 @@ returns-in_default c =
       count = c.slots-n.ensures.0;
       at = c.current.ensures.0;
       below = rw c.depth.ensures.0 c.requires.1;
-      c = c.row_back-r.ensures;
+      back = c.row_back-r.ensures;
       is = c.row.ensures.0;
     } in
     let args = c.args in
@@ -41,7 +41,7 @@ returns c =
       count = c.slots-n.ensures.0;
       at = c.current.ensures.0;
       below = rw c.depth.ensures.0 c.requires.1;
-      c = c.row_back-r.ensures;
+      back = c.row_back-r.ensures;
       is = c.row.ensures.0;
     } in
     let args = c.args in

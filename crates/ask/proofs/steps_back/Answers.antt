@@ -25,7 +25,7 @@ loop-j-preserved c =
       count = c.slots-n.ensures.0;
       at = c.current-c.ensures.0;
       below = c.if-j-d.false;
-      c = c.row_back.ensures;
+      back = c.row_back.ensures;
       is = c.row.ensures.0;
     } in
     let args = c.args in
@@ -41,7 +41,7 @@ returns c =
       count = c.slots-n.ensures.0;
       at = c.current-c.ensures.0;
       below = c.if-j-d.false;
-      c = c.row_back.ensures;
+      back = c.row_back.ensures;
       is = c.row.ensures.0;
     } in
     let args = c.args in

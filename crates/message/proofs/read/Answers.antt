@@ -71,6 +71,13 @@ returns-then-message-ne0 c =
     let left = padding_refuse a.form a.message.now a.out.now (passed) (fields-passed) (λ p. c.if-message-ne0.true (bit ∙ p)) in
     (left.0, left.1, λ i. (known i).fits)
 
+pub slice_bounds-body-end : goal.slice_bounds-body-end
+slice_bounds-body-end c =
+    let passed : let a = c.args in
+    lengths_number a.form a.message.now a.out.now ≡ 0 = does _ _ _ c.in_default.is c.lengths_entry-lengths.ensures in
+    let a = c.args in
+    omega (arith, (lengths_passed a.form a.message.now a.out.now (passed)).1, c.data_bytes.ensures)
+
 pub body-requires : goal.body-requires
 body-requires c =
     let passed : let a = c.args in

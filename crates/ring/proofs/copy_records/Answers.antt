@@ -15,7 +15,7 @@ loop-i-preserved c =
     let here = c.loop-i in
     let a = args.from + head_size in
     let b = args.to + head_size in
-    let apart = records_apart args.n args.from args.to c.requires.0 in (
+    let apart = records_apart args.n args.from args.to c.requires.fact in (
       omega arith,
       (
         simp length-set (omega arith),
