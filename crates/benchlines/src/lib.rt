@@ -1,4 +1,6 @@
 // One whole item of the bench program answered on a room (STORE 17.2, 17.3).
+#![tactic(auto)]
+
 ghost use Rattle.std.specs.Prelude.{◌≡◌, ◌+◌, ◌≤◌, length, get_or, take};
 ghost use Rattle.paper.specs.Big.{be16, be32};
 ghost use Rattle.paper.specs.Record.{CED, data_bytes};
@@ -68,6 +70,7 @@ fn asked(answer: Asked) -> Outcome
 }
 
 // Satellite, band, week (2), time (4), 16 bytes.
+#[tactic(auto, unfolding(crate::specs::Items::word_call, paper::specs::Call::answer_to, paper::specs::Call::room_after))]
 fn word(room: &mut [u8], body: &[u8]) -> Outcome
     requires { length body.now ≡ body_length Word }
     ensures { (outcome_answer result ≡ answer_to (word_call body.now) room.old)
@@ -93,6 +96,7 @@ fn copied(given: &mut [u8], data: &[u8]) -> usize
 }
 
 // The data of a tag's candidate, copied: a tag is lent the room it lies in. How many bytes there are comes back.
+#[tactic(auto, unfolding(crate::specs::Items::candidate_on))]
 fn candidate(room: &[u8], body: &[u8], given: &mut [u8]) -> usize
     requires { (length body.now ≡ body_length Tag) × (length given.old ≡ data_bytes CED) }
     ensures { (take result given.new ≡ candidate_on body.now room.now)
@@ -106,6 +110,7 @@ fn candidate(room: &[u8], body: &[u8], given: &mut [u8]) -> usize
 }
 
 // Satellite, kind, COP, length, status, verdict (0 is no), week (2), time (4).
+#[tactic(auto, unfolding(crate::specs::Items::tag_call_on, paper::specs::Call::answer_to, paper::specs::Call::room_after))]
 fn tag(room: &mut [u8], body: &[u8]) -> Outcome
     requires { length body.now ≡ body_length Tag }
     ensures { (outcome_answer result ≡ answer_to (tag_call_on body.now room.old) room.old)
@@ -128,6 +133,7 @@ fn tag(room: &mut [u8], body: &[u8]) -> Outcome
     ))
 }
 
+#[tactic(auto, unfolding(paper::specs::Call::answer_to, paper::specs::Call::room_after))]
 fn reset(room: &mut [u8]) -> Outcome
     ensures { (outcome_answer result ≡ answer_to reset_call room.old) × (room.new ≡ room_after reset_call room.old) }
 {
@@ -135,6 +141,7 @@ fn reset(room: &mut [u8]) -> Outcome
 }
 
 // D, N: rule 0, whatever the room had.
+#[tactic(auto, unfolding(paper::specs::Call::answer_to, paper::specs::Call::room_after))]
 fn fresh(room: &mut [u8], body: &[u8]) -> Outcome
     requires { length body.now ≡ body_length Fresh }
     ensures { (outcome_answer result ≡ answer_to (fresh_call (get_or body.now 0 0) (get_or body.now 1 0) 0) room.old)
@@ -144,6 +151,7 @@ fn fresh(room: &mut [u8], body: &[u8]) -> Outcome
 }
 
 // D, N, rule.
+#[tactic(auto, unfolding(paper::specs::Call::answer_to, paper::specs::Call::room_after))]
 fn fresh_ruled(room: &mut [u8], body: &[u8]) -> Outcome
     requires { length body.now ≡ body_length FreshRuled }
     ensures { (outcome_answer result ≡ answer_to (ruled_call body.now) room.old)
@@ -163,6 +171,7 @@ fn satellite(body: &[u8]) -> Svn
 }
 
 // What an item's call answers, and the room after it.
+#[tactic(auto, unfolding(paper::specs::Call::run, paper::specs::Call::answer_to, paper::specs::Call::room_after))]
 pub fn outcome(room: &mut [u8], kind: Kind, body: &[u8]) -> Outcome
     requires { length body.now ≡ body_length kind }
     ensures { (outcome_answer result ≡ whole_answer kind body.now room.old)
@@ -181,6 +190,7 @@ pub fn outcome(room: &mut [u8], kind: Kind, body: &[u8]) -> Outcome
 }
 
 // The slice of the room that an item's call hands out.
+#[tactic(auto, unfolding(crate::specs::Items::word_call, crate::specs::Items::tag_call_on, paper::specs::Call::part_to))]
 pub fn part<'a>(room: &'a [u8], kind: Kind, body: &[u8]) -> &'a [u8]
     requires { length body.now ≡ body_length kind }
     ensures { result.now ≡ whole_data kind body.now room.now }
@@ -198,6 +208,7 @@ pub fn part<'a>(room: &'a [u8], kind: Kind, body: &[u8]) -> &'a [u8]
 }
 
 // The line for a whole item, from a place of `out` on, and the room after it.
+#[tactic(auto, unfolding(crate::specs::Items::whole_line))]
 pub fn answer(room: &mut [u8], kind: Kind, body: &[u8], out: &mut [u8], at: usize) -> usize
     requires { (length body.now ≡ body_length kind) × (at + longest_line ≤ length out.old) }
     ensures { (room.new ≡ whole_room kind body.now room.old)

@@ -1,5 +1,7 @@
 // The room's half of a word (STORE 10): the ring is settled for the word's subframe, and in each family the record that is chosen
 // takes the word. Each is lent as a slice of the row.
+#![tactic(auto)]
+
 ghost use Rattle.std.specs.Prelude.{◌≡◌, true, ℕ, ◌≤◌, length};
 ghost use Rattle.paper.specs.Time.{is_time, start_of};
 ghost use Rattle.paper.specs.Record.{CED, Timing as TIMING};
@@ -30,6 +32,7 @@ fn feed_timing(row: &mut [u8], n: usize, sat: u8, band: u8, word: &[u8])
 }
 
 // The row of n slots after a word of the satellite.
+#[tactic(auto, unfolding(paper::specs::Feed::fed_row))]
 fn feed_row(row: &mut [u8], n: usize, sat: u8, band: u8, word: &[u8])
     requires { (1 ≤ n) × (n ≤ most_slots) × (row_size n ≤ length row.old) × (length word.now ≡ word_bytes) }
     ensures { row.new ≡ fed_row n sat band word.now row.old }
@@ -39,6 +42,7 @@ fn feed_row(row: &mut [u8], n: usize, sat: u8, band: u8, word: &[u8])
 }
 
 // The current row takes the word.
+#[tactic(auto, unfolding(paper::specs::Feed::fed_current))]
 fn feed_current(room: &mut [u8], sat: u8, band: u8, word: &[u8])
     requires { InRange room.old × (length word.now ≡ word_bytes) }
     ensures { room.new ≡ fed_current sat band word.now room.old }
@@ -62,6 +66,7 @@ fn start_of(gst: Gst) -> u32
 }
 
 // A word of a satellite, received at a time on a band: the ring settled for its subframe, and then the records of the current row.
+#[tactic(auto, unfolding(paper::specs::Feed::fed))]
 pub fn feed_word(room: &mut [u8], gst: Gst, sat: u8, band: u8, word: &[u8])
     requires { InRange room.old × (is_time gst.tow.0 ≡ true) × (length word.now ≡ word_bytes) }
     ensures { room.new ≡ fed gst.wn.0 (start_of gst.tow.0) sat band word.now room.old }

@@ -2,15 +2,12 @@
 use native.Mathlib.Omega.{arith}
 use mathlib.Core.Path.{◌≡◌, refl, sym, ap, ◌∙◌}
 use mathlib.Core.Bool.{Bool, true, false, cond}
-use mathlib.Core.Logic.{⊎_elim}
 use mathlib.Core.List.{[], ◌∷◌}
 use Prim.Native.Nat.{ℕ, ◌/◌, ◌%◌, ◌≤◌, ◌<◌}
 use borrow.Author.Tests.{leb-true}
 use lib.Dec.{eqb, leb}
 use lib.IntN.{ℤ, pos, negsuc, ◌+ℤ◌}
 use lib.Signed.{le_z}
-use types.Run.{OneOf}
-use denote.Enum.Declared.{tag_of}
 use Rattle.paper.specs.Number.{Answer, done, refused, number}
 use Rattle.paper.specs.Time.{is_time, is_start, start_of, week_seconds, last_week, seconds_of, time_of_seconds, sum_of, add_seconds, subframe_of, is_subframe}
 use Rattle.gst.specs.Answer.{time_answer, start_answer}
@@ -18,11 +15,10 @@ use Rattle.gst.specs.declared.Gst.{Gst}
 use Rattle.gst.specs.declared.NewTime.{NewTime}
 use Rattle.gst.specs.declared.NewTime.TheVariants.{Time, TowTooLarge, TimeArithmetic}
 use Rattle.gst.specs.declared.Start.TheVariants.{Yes, No, TowTooLarge as NoStart}
-use Rattle.gst.specs.contracts.NewTime.{the_type}
 
 -- the arm of `let NewTime::Time(..) = .. else`: the number is not 0
-pub refuses_time : (r : NewTime) → OneOf (1 ∷ 2 ∷ []) (tag_of the_type r) → eqb (number (time_answer r)) 0 ≡ false
-refuses_time (Time g) k = absurd (⊎_elim (λ e. omega arith) (λ e. omega arith) k)
+pub refuses_time : (r : NewTime) → ((g : Gst) → r ≡ Time g → ⊥) → eqb (number (time_answer r)) 0 ≡ false
+refuses_time (Time g) k = absurd (k g refl)
 refuses_time TowTooLarge k = refl
 refuses_time TimeArithmetic k = refl
 

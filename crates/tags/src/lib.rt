@@ -1,5 +1,7 @@
 // STORE 11: where a tag's candidate lies or why there is none, and what an accepted tag leaves. The refusals come in the
 // order of STORE 14.2.
+#![tactic(auto)]
+
 ghost use Rattle.std.specs.Prelude.{◌≡◌, ◌+◌, ◌≤◌, length};
 ghost use Rattle.paper.specs.Parts.{part};
 ghost use Rattle.paper.specs.Record.{family_if, size, satellite};
@@ -45,6 +47,7 @@ fn candidate_before(room: &[u8], sat: u8, timing: bool, cop: u8, week: u16, time
 }
 
 // 3, 4, 5, 6, 8, 9, 7, 16, 10: a tag and the candidate test 8 and 9 each in their own way
+#[tactic(auto, unfolding(paper::specs::Tag::family_of))]
 pub fn candidate_of(
     room: &[u8],
     svn: Svn,
@@ -90,6 +93,7 @@ pub fn candidate_shown(room: &[u8], svn: Svn, kind: u8, cop: u8, mack: Gst) -> C
 }
 
 // STORE 11.4: whether the given data has its length and the candidate's bits
+#[tactic(auto, unfolding(paper::specs::Tag::given_agrees))]
 fn given_agrees(room: &[u8], at: usize, timing: bool, given: &[u8]) -> bool
     requires { at + size (family_if timing) ≤ length room.now }
     ensures { result ≡ given_agrees (family_if timing) given.now (part at (size (family_if timing)) room.now) }

@@ -61,7 +61,7 @@ returns-in_default-time_before c =
     let args = c.args in
     ask_late (family_if args.timing) args.svn.0 args.room.now _ _ (sym c.answering_at.ensures ∙ c.in-At.is)
     (a-store) (a-satellite) (sym c.if-age_unknown.false ∙ c.age_unknown.ensures)
-    _ time.ensures (refuses_time time.result c.in_default-time_before.in_default-time_before-own.keys2)
+    _ time.ensures (refuses_time time.result c.in_default-time_before.not-Time)
 
 pub overflow_add-at : goal.overflow_add-at
 overflow_add-at c =

@@ -34,14 +34,14 @@ pub write-requires-clause-out_len : goal.write-requires-clause-out_len
 write-requires-clause-out_len c =
     let passed : let a = c.args in build_number a.form (head_of a.h) a.given.now a.out.now ≡ 0 = does _ _ _ c.in_default.is c.build_entry-reply.ensures in
     let a = c.args in
-(write_asks a.form (head_of a.h) a.given.now a.out.now (passed) _ _ _ c.head_bytes.ensures c.head_number-head.ensures
+    (write_asks a.form (head_of a.h) a.given.now a.out.now (passed) _ _ _ c.head_bytes.ensures c.head_number-head.ensures
     c.message_bytes-bytes.ensures).0
 
 pub write-requires-clause-k_bound : goal.write-requires-clause-k_bound
 write-requires-clause-k_bound c =
     let passed : let a = c.args in build_number a.form (head_of a.h) a.given.now a.out.now ≡ 0 = does _ _ _ c.in_default.is c.build_entry-reply.ensures in
     let a = c.args in
-(write_asks a.form (head_of a.h) a.given.now a.out.now (passed) _ _ _ c.head_bytes.ensures c.head_number-head.ensures
+    (write_asks a.form (head_of a.h) a.given.now a.out.now (passed) _ _ _ c.head_bytes.ensures c.head_number-head.ensures
     c.message_bytes-bytes.ensures).1
 
 pub returns : goal.returns
