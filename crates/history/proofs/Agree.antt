@@ -11,7 +11,7 @@ use borrow.Author.Tests.{eqb-true, eq-eqb}
 use lib.ListN.{length, take, get_or, get_or-append}
 use lib.Seq.{length-take-le, get_or-take, get_or_at, ext_get_or}
 use Rattle.paper.specs.Bits.{moved, changed}
-use Rattle.paper.specs.Record.{Family, CED, Timing, record_bits, data_bytes, satellite, data_of, in_bits, same_list, same_bits}
+use Rattle.paper.specs.Record.{Family, CED, Timing, record_bits, data_bytes, satellite, data_of, in_bits, same_bits}
 use Rattle.paper.proofs.Bits.{length_moved, changed_not, not_changed, last_kept}
 use Rattle.paper.proofs.Same.{bits_true, true_bits}
 use Rattle.paper.proofs.StoreFacts.{both_true}

@@ -1,6 +1,8 @@
 pub mod Agree
 pub mod Records
 pub mod Calls
+pub mod Grows
+pub mod More
 pub mod OneMore
 pub mod Asked
 pub mod Demand

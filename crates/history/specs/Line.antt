@@ -1,5 +1,5 @@
 -- STORE 15: the line of a record followed back in time, its breaks, and the tags that count on it.
-use Rattle.std.specs.Prelude.{ℕ, ◌+◌, ◌<◌, Bool, true, false, cond, not, ◌&&◌, ◌||◌, List, [], ◌∷◌, ◌++◌, eqb}
+use Rattle.std.specs.Prelude.{ℕ, ◌+◌, ◌<◌, Bool, false, cond, not, ◌&&◌, ◌||◌, List, [], ◌∷◌, ◌++◌, eqb}
 use Rattle.paper.specs.Number.{number}
 use Rattle.paper.specs.Time.{start_of}
 use Rattle.paper.specs.Record.{Family, satellite, data_of, same_bits, same_family}

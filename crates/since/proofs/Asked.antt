@@ -1,6 +1,6 @@
 -- Under rule 1 the time that asking hands out is the subframe of the newest of the record's words: the least age is that word's, and the
 -- row's subframe less 30 s for each of it is the word's own. Assumes nothing.
-use mathlib.Core.Bool.{Bool, true, false, not, cond, ◌&&◌}
+use mathlib.Core.Bool.{Bool, true, false, not, ◌&&◌}
 use mathlib.Core.List.{List, [], ◌∷◌}
 use mathlib.Core.Path.{◌≡◌, refl, sym, ◌∙◌}
 use Prim.Native.Nat.{ℕ, zero, suc, ◌+◌, ◌*◌, ◌<◌, ◌≤◌}
@@ -28,7 +28,7 @@ use Rattle.stays.proofs.Stays.{number_answer}
 use Rattle.history.specs.Line.{Place, at}
 use Rattle.history.specs.Demand.{answering_place}
 use Rattle.history.proofs.Asked.{answering_inside}
-use Rattle.since.specs.Brought.{Fed, Origin, no_word, fed_as, age_of, AgeSays, AgesHold, StartsAt, NotLater, TimeHolds}
+use Rattle.since.specs.Brought.{Origin, no_word, fed_as, AgeSays, AgesHold, StartsAt, NotLater, TimeHolds}
 
 -- ---- the least of some ages
 least_most : (l : List ℕ) (k : ℕ) → k < length l → least l ≤ get_or l k 0

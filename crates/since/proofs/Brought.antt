@@ -1,9 +1,9 @@
 -- What the words that were brought say of a room: of its bits and ages, after a fresh call and any calls; and where bits and ages hold, of
 -- a candidate, since each of its ages is below its COP, and of a tag that is answered 0. Assumes nothing.
-use mathlib.Core.Bool.{Bool, true, false, ◌&&◌, false≢true}
+use mathlib.Core.Bool.{true, false, ◌&&◌, false≢true}
 use mathlib.Core.List.{List, [], ◌∷◌}
 use mathlib.Core.Path.{◌≡◌, refl, sym, ap, ◌∙◌}
-use Prim.Native.Nat.{ℕ, zero, suc, ◌+◌, ◌-◌, ◌*◌, ◌<◌, ◌≤◌}
+use Prim.Native.Nat.{ℕ, zero, suc, ◌+◌, ◌-◌, ◌<◌, ◌≤◌}
 use native.Mathlib.Omega.{arith}
 use borrow.Author.Tests.{eqb-true, eq-eqb, leb-true, ltb-true}
 use lib.Dec.{eqb, ltb}
@@ -11,9 +11,9 @@ use lib.IntN.{pos, neg_ℤ}
 use lib.ListN.{get_or}
 use Rattle.paper.specs.Number.{number, values}
 use Rattle.paper.specs.Bits.{bit_at}
-use Rattle.paper.specs.Time.{seconds_of, start_of, subframe_seconds}
-use Rattle.paper.specs.Record.{Family, record_bits, ages, satellite, ages_of, data_of, greatest, older}
-use Rattle.paper.specs.Room.{by_time, depth, slots, row_of, marked, is_at, week, time}
+use Rattle.paper.specs.Time.{seconds_of}
+use Rattle.paper.specs.Record.{Family, record_bits, satellite, ages_of, data_of, greatest, older}
+use Rattle.paper.specs.Room.{depth, slots, row_of, marked, is_at, week, time}
 use Rattle.paper.specs.Word.{Owned, nothing, owns, type_of}
 use Rattle.paper.specs.Tag.{family_of, thirty_before, first_row, candidate_row, candidate_slot, candidate_record, fits_cop, has_candidate}
 use Rattle.paper.specs.Call.{tag_call, fresh_call, answer_to, room_after, run}
@@ -25,10 +25,9 @@ use Rattle.stays.proofs.Rooms.{candidate_satellite}
 use Rattle.stays.proofs.Stays.{run_stays}
 use Rattle.history.specs.Line.{Place, Inside, at, succeeds}
 use Rattle.history.proofs.Calls.{Accepted, Passed, tag_passed, tag_accepted_lem}
-use Rattle.since.specs.Brought.{Fed, Origin, no_word, fed_as, owned_by, owns_age, StandIn, Holds, age_of, MadeOf, BitsHold, Dated, AgeSays, AgesHold, AfterFresh}
-use Rattle.since.specs.Brought.{InTime, FedWithin, candidate_place, CopHolds, BitFed, TagHolds}
+use Rattle.since.specs.Brought.{Fed, Origin, no_word, fed_as, owned_by, owns_age, StandIn, age_of, MadeOf, BitsHold, AgeSays, AgesHold, AfterFresh}
+use Rattle.since.specs.Brought.{FedWithin, candidate_place, CopHolds, BitFed, TagHolds}
 use Rattle.since.proofs.Shares.{share_at, IsShare, owned_share, InShare, in_some_share}
-use Rattle.since.proofs.Changes.{Stands}
 use Rattle.since.proofs.Along.{stands_along, stands_after_fresh}
 
 -- ---- after a fresh call

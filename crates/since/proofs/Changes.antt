@@ -4,7 +4,7 @@ use mathlib.Core.Bool.{Bool, true, false, cond, ◌||◌, false≢true}
 use mathlib.Core.List.{List, [], ◌∷◌, map}
 use mathlib.Core.Logic.{◌≢◌}
 use mathlib.Core.Path.{◌≡◌, refl, sym, ap, subst, ◌∙◌}
-use Prim.Native.Nat.{ℕ, zero, suc, ◌+◌, ◌*◌, ◌<◌, ◌≤◌}
+use Prim.Native.Nat.{ℕ, zero, suc, ◌+◌, ◌<◌, ◌≤◌}
 use native.Mathlib.Omega.{arith}
 use native.Mathlib.Decide.{dec_lt}
 use lib.Dec.{eqb}
@@ -12,7 +12,7 @@ use borrow.Author.Tests.{eqb-true, eqb-false, eq-eqb, ne_eqb}
 use lib.ListN.{length, get_or, set, replicate, get_or-replicate}
 use lib.Seq.{get_or-set_same, get_or-set_other}
 use Rattle.paper.specs.Bits.{bit_at, moved}
-use Rattle.paper.specs.Time.{start_of, seconds_of}
+use Rattle.paper.specs.Time.{seconds_of}
 use Rattle.paper.specs.Record.{Family, CED, Timing, size, ages, ages_at, data_at, data_bytes, satellite, ages_of, data_of, oldest, older, aged, blank_record}
 use Rattle.paper.specs.Word.{Owned, nothing, owns, InBounds, type_of, takeover, written, fed_record}
 use Rattle.paper.specs.Room.{mark_at, week, time, marked}
@@ -23,7 +23,7 @@ use Rattle.paper.proofs.RecordViews.{aged_satellite, aged_ages, aged_data, takeo
 use Rattle.paper.proofs.WordTable.{owned_in_bounds}
 use Rattle.stays.proofs.Rows.{SameHead, same_week, same_time}
 use Rattle.history.proofs.Records.{written_same}
-use Rattle.since.specs.Brought.{Fed, Origin, no_word, fed_as, owned_by, owns_age, held_by, StandIn, Holds, age_of, MadeOf, Dated, AgeSays}
+use Rattle.since.specs.Brought.{Fed, Origin, no_word, fed_as, owned_by, owns_age, held_by, StandIn, Holds, age_of, MadeOf, AgeSays}
 use Rattle.since.proofs.Shares.{IsShare, owned_share, share_rises}
 
 -- under rule 1 the age says when the word came; under either rule nothing of it is said

@@ -2,14 +2,14 @@
 -- risen by just the seconds that lie between, and of the records of the row the chosen one takes the word. Assumes nothing.
 use mathlib.Core.Bool.{Bool, true, false, not, cond, ◌&&◌}
 use mathlib.Core.List.{List, []}
-use mathlib.Core.Path.{◌≡◌, refl, sym, ap, subst, ◌∙◌}
-use Prim.Native.Nat.{ℕ, ◌+◌, ◌*◌, ◌%◌, ◌<◌, ◌≤◌}
+use mathlib.Core.Path.{◌≡◌, refl, sym, ap, ◌∙◌}
+use Prim.Native.Nat.{ℕ, ◌+◌, ◌*◌, ◌<◌, ◌≤◌}
 use native.Mathlib.Omega.{arith}
 use lib.Dec.{eqb, leb}
 use lib.ListN.{length, get_or}
 use borrow.Author.Tests.{eqb-true, eq-eqb, ltb-true}
 use Rattle.paper.specs.Satellite.{is_satellite}
-use Rattle.paper.specs.Time.{week_seconds, start_of, is_time, is_earlier, gone_by, seconds_of}
+use Rattle.paper.specs.Time.{week_seconds, start_of, is_time, is_earlier, seconds_of}
 use Rattle.paper.specs.Record.{Family, size, ages, satellite, older, aged}
 use Rattle.paper.specs.Word.{word_bytes, fed_record}
 use Rattle.paper.specs.Room.{head_size, row_size, record_of, slots, current, row_of, by_time, mark, week, time, marked, is_at}
@@ -28,7 +28,7 @@ use Rattle.stays.proofs.Rooms.{feed_allowed, satellite_known}
 use Rattle.stays.proofs.Rows.{SameHead}
 use Rattle.stays.proofs.Stays.{number_answer}
 use Rattle.history.specs.Line.{succeeds}
-use Rattle.since.specs.Brought.{Fed, Origin, no_word, fed_as, owned_by, owns_age, held_by, age_of, Dated}
+use Rattle.since.specs.Brought.{Fed, Origin, no_word, fed_as, owned_by, owns_age, held_by, age_of}
 use Rattle.since.proofs.Changes.{AgeIf, Stands, head_marked, head_seconds, aged_stands, fed_stands}
 
 -- under rule 1, or under either
