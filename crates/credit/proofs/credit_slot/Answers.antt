@@ -15,12 +15,12 @@ pub returns-then-not-same_bits : goal.returns-then-not-same_bits
 returns-then-not-same_bits c =
     let args = c.args in
     differs_lent (family_if args.timing) args.sat args.given.now args.added args.slot.now
-    c.base-a.result c.type_size.result c.data_at.result c.base-a.ensures c.type_size.ensures c.data_at.ensures _
+    c.base-a.result c.size_of.result c.data_at.result c.base-a.ensures c.size_of.ensures c.data_at.ensures _
     c.same_bits.ensures (c.if-not-same_bits.true)
 
 pub returns : goal.returns
 returns c =
     let args = c.args in
     agrees_lent (family_if args.timing) args.sat args.given.now args.added args.slot.now
-    c.base-a.result c.type_size.result c.data_at.result c.base-a.ensures c.type_size.ensures c.data_at.ensures _ _
+    c.base-a.result c.size_of.result c.data_at.result c.base-a.ensures c.size_of.ensures c.data_at.ensures _ _
     c.if-slot-a.false c.same_bits.ensures (c.if-not-same_bits.false) c.add_length.ensures
