@@ -1,5 +1,6 @@
-"""Holds the C header and the Rust crate to the code: to the exports of crates/ffi, ffi_intake, ffi_orbit and ffi_message the names of the
-calls and of each the number, the order and the width of its parameters, what it hands back, and the fields of the structs; to
+"""Holds the C header and the Rust crate to the code: to the exports, which crates/ffi_c, ffi_intake_c, ffi_orbit_c and ffi_message_c have, the
+names of the calls and of each the number, the order and the width of its parameters, what it hands back, and the fields of the structs; to
+crates/ffi, ffi_intake, ffi_orbit and ffi_message the parameters and the contract of each export, which say what those say of their own; to
 crates/refusals the numbers; to the crates that have them the limits, sizes, bands, kinds, forms and ageing rules; to the definitions of
 crates/paper the order of refusals in the header's comments; and to each other names, texts, codes and versions. And holds the pages to
 the tree: the numbers and the orders of docs/STORE.md, 14, the numbers of docs/ANSWER.md, the crates of README.md, and the functions, wrong
@@ -14,7 +15,7 @@ import sys
 HEADER, SYS, RUST = "include/dawnstook.h", "rust/src/sys.rs", "rust/src/"
 README, STORE, ANSWER, PROMISES = "README.md", "docs/STORE.md", "docs/ANSWER.md", "docs/PROMISES.md"
 
-# the crates that have exports
+# the crates whose functions the archive has, each under the same contract from a static library of this name and _c
 EXPORTS = ["ffi", "ffi_intake", "ffi_orbit", "ffi_message"]
 
 # a slice is a pointer and a length, an array a pointer alone: its length is one of CONSTANTS
@@ -47,10 +48,10 @@ CONSTANTS = {
 
 # the definition of crates/paper that has the order of a call's refusals, and the family where it goes by that
 ORDERS = {
-    "fresh": ("freshNumber", None), "feed": ("feedNumber", None), "candidate": ("candidateNumber", None), "tag": ("tagNumber", None),
-    "get_ced_and_status": ("askNumber", None), "get_timing_parameters": ("askNumber", None), "reset_authbits": ("resetNumber", None),
-    "get_orbit": ("numbersNumber", "CED"), "get_timing_numbers": ("numbersNumber", "Timing"),
-    "build_message": ("buildNumber", None), "read_message": ("readNumber", None),
+    "fresh": ("fresh_number", None), "feed": ("feed_number", None), "candidate": ("candidate_number", None), "tag": ("tag_number", None),
+    "get_ced_and_status": ("ask_number", None), "get_timing_parameters": ("ask_number", None), "reset_authbits": ("reset_number", None),
+    "get_orbit": ("numbers_number", "CED"), "get_timing_numbers": ("numbers_number", "Timing"),
+    "build_message": ("build_number", None), "read_message": ("read_number", None),
 }
 
 # the codes of the header and of the crate, whose names are galileo-osnma's but for the forms and the ageing rules
@@ -88,15 +89,20 @@ def camel(name):
 
 def structs_like_rust(text):
     found = {}
-    for name, body in re.findall(r"#\[repr\(C\)\]\s*pub struct (\w+) \{(.*?)\}", text, re.S):
+    for name, body in re.findall(r"#\[repr\(C\)\]\s*(?:#\[[^\]]*\]\s*)*pub struct (\w+) \{(.*?)\}", text, re.S):
         found[name] = [tuple(re.fullmatch(r"pub (\w+): (\w+)", f).groups()) for f in split(body)]
     return found
 
 
+def exports_of(crate):
+    """Name to parameters, result and clauses, as the crate has them."""
+    pattern = r"#\[unsafe\(no_mangle\)\]\s*pub extern \"C\" fn (\w+)\((.*?)\)\s*(?:->\s*(?:\w+::)?(\w+))?(.*?)^\{"
+    return {name: (parameters, result, clauses.split()) for name, parameters, result, clauses in re.findall(pattern, code_of(crate), re.S | re.M)}
+
+
 def of_rattle():
-    text, calls, structs = "".join(code_of(crate) for crate in EXPORTS), {}, {}
-    pattern = r"#\[no_mangle\]\s*pub extern \"C\" fn (\w+)\((.*?)\)\s*(?:->\s*(?:\w+::)?(\w+))?\s*(?:requires|ensures|\{)"
-    for name, parameters, result in re.findall(pattern, text, re.S):
+    calls, structs = {}, {}
+    for name, (parameters, result, _) in (export for crate in EXPORTS for export in exports_of(crate + "_c").items()):
         types = []
         for p in split(parameters):
             kind = p.split(":", 1)[1].strip()
@@ -187,7 +193,8 @@ def constants_of_crate(crate):
     """Its constants as crate.NAME or crate.Type.NAME, and the names in their expressions so too, since crates may have different constants
     of one name: a name is of the crate that it says, or that a `use` says, or else the crate's own."""
     text, kind, expressions = code_of(crate), "", {}
-    used = {name: other for other, name in re.findall(r"^use (\w+)::(\w+);", text, re.M)}
+    uses = re.findall(r"^use (\w+)::(?:\{([^}]*)\}|(\w+));", text, re.M)
+    used = {name.strip(): other for other, several, one in uses for name in (several or one).split(",")}
 
     def whole(name):
         first, *rest = name.group(0).split("::")
@@ -275,8 +282,8 @@ def order_of(name, bodies):
 
 def orders_of_definitions():
     text = "\n\n".join(re.sub(r"--[^\n]*", "", read(f"crates/paper/specs/{file}.antt")) for file in ("Answer", "Orbit", "Message"))
-    bodies = dict(re.findall(r"^((?:until|from)\w+|\w+Number) [^:=\n]*=(.*?)(?=\n\n|\Z)", text, re.S | re.M))
-    families = {f: dict(re.findall(rf"^(\w+Tests) {f} [^:=\n]*=(.*)$", text, re.M)) for f in ("CED", "Timing")}
+    bodies = dict(re.findall(r"^((?:until|from)_\w+|\w+_number) [^:=\n]*=(.*?)(?=\n\n|\Z)", text, re.S | re.M))
+    families = {f: dict(re.findall(rf"^(\w+_tests) {f} [^:=\n]*=(.*)$", text, re.M)) for f in ("CED", "Timing")}
     return {call: order_of(name, dict(bodies, **families.get(family, {}))) for call, (name, family) in ORDERS.items()}
 
 
@@ -318,13 +325,15 @@ def said_in(page, pattern):
 
 
 def crates_of_tree():
-    return re.findall(r"^(\w+):", read("crates.txt"), re.M)
+    return re.findall(r"^(\w+)(?: staticlib)?:", read("crates.txt"), re.M)
 
 
 def public_functions():
-    """Crate and name of each, as `gst Gst::add_seconds`."""
+    """Crate and name of each, as `gst Gst::add_seconds`. The archive's crates have none of their own: their exports are those of EXPORTS."""
     found = []
     for file in sorted(glob.glob("crates/*/src/**/*.rt", recursive=True)):
+        if file.split("/")[1] in (crate + "_c" for crate in EXPORTS):
+            continue
         kind = ""
         for line in without_comments(read(file)).splitlines():
             opened = re.match(r"impl (\w+) \{", line)
@@ -364,7 +373,13 @@ class Held:
 def calls(held, header):
     exports = of_rattle()
     if not exports[0]:
-        sys.exit("outside: no exports found in crates/" + ", crates/".join(EXPORTS))
+        sys.exit("outside: no exports found in crates/" + ", crates/".join(crate + "_c" for crate in EXPORTS))
+    before = held.wrong
+    for crate in EXPORTS:
+        library, archive = exports_of(crate), exports_of(crate + "_c")
+        for name in sorted(set(library) | set(archive)):
+            held.same(f"crates/{crate}_c: parameters, result and clauses of {name}", archive.get(name), library.get(name))
+    held.done(before, f"the archive has the {len(exports[0])} functions of crates/{', '.join(EXPORTS)} under their contracts")
     for where, other in ((HEADER, of_header(header)), (SYS, of_rust())):
         before = held.wrong
         for i, what in enumerate(("call", "struct")):
@@ -482,7 +497,7 @@ def promises_on_page(held, _):
     face, inner = table_of(PROMISES, "## The face"), table_of(PROMISES, "## Inner functions")
     functions = public_functions()
     held.members(f"{PROMISES}, functions", [f"{row[0]} {name}" for row in face + inner for name in quoted(row[1])], functions)
-    asks = per_file("crates/*/proofs/Asks.antt", r"^pub \S+-asks-nothing :")
+    asks = per_file("crates/*/proofs/Asks.antt", r"^pub \w+_asks_nothing :")
     held.members(f"{PROMISES}, crates of the face", [row[0] for row in face], [file.split("/")[1] for file, found in asks.items() for _ in found])
     wrong = per_file("crates/*/must-fail/*.edit", r"^wrong: (\w+)$")
     rounds = {file: found for file, found in wrong.items() if re.search(r"/round_\d+\.edit$", file)}
@@ -491,7 +506,7 @@ def promises_on_page(held, _):
     named = {name for row in face + inner for name in quoted(row[4])}
     held.same(f"{PROMISES}: wrong answers that are not there", sorted(named - tried), [])
     theorems, answers, in_rounds = (sum(map(len, of.values())) for of in (asks, wrong, rounds))
-    held.same(f"{PROMISES}: theorems `NAME-asks-nothing`", said_in(PROMISES, r"That is (\d+) theorems `NAME-asks-nothing`"), [theorems])
+    held.same(f"{PROMISES}: theorems `NAME_asks_nothing`", said_in(PROMISES, r"That is (\d+) theorems `NAME_asks_nothing`"), [theorems])
     counts = [len(functions), theorems, len(functions) - theorems, answers, len(wrong), in_rounds, len(rounds), answers - in_rounds]
     form = (r"^(\d+) public functions: (\d+) of the face, (\d+) inner\. "
             r"(\d+) wrong answers in (\d+) edits: (\d+) in (\d+) rounds, and (\d+) with a file of their own\.$")

@@ -1,6 +1,9 @@
 // The store's calls for C and Rust, under plain names. Room, word and data come as a pointer and a length, numbers as numbers; the
 // number and its values go back by value, and a slice of the room as its offset and its bytes. No contract here asks anything; what is owed
-// with a pointer from C stands in include/dawnstook.h.
+// with a pointer from C stands in include/dawnstook.h. This crate is a library, of which theorems speak, and exports nothing itself: the
+// archive has these calls from `ffi_c`.
+#![tactic(auto)]
+
 ghost use Rattle.std.specs.Prelude.{◌≡◌, cond, length};
 ghost use Rattle.paper.specs.Number.{refused, number};
 ghost use Rattle.paper.specs.Parts.{part};

@@ -1,6 +1,8 @@
 // The reader of `intake` for C and Rust, under plain names, in a crate of its own: what is compiled for the store's calls (`ffi`) stays as it
 // is, and who reads no items links none of this. State, room, part and output come as pointers; what is owed with one from C stands
-// in include/dawnstook.h.
+// in include/dawnstook.h. The archive has these calls from `ffi_intake_c`.
+#![tactic(auto)]
+
 ghost use Rattle.std.specs.Prelude.{◌≡◌, false, take};
 ghost use Rattle.text.specs.Text.{Put};
 ghost use Rattle.intake.specs.Input.{stage_of, lines_of};

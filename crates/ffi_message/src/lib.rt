@@ -1,6 +1,8 @@
 // The message under a tag for C and Rust, under plain names, in a crate of its own: what is compiled for the store's calls stays as it is, and
 // who builds no message links none of this. Beside a refusal every value is 0. What is owed with a pointer from C stands in
-// include/dawnstook.h.
+// include/dawnstook.h. The archive has these calls from `ffi_message_c`.
+#![tactic(auto)]
+
 ghost use Rattle.std.specs.Prelude.{◌≡◌};
 ghost use Rattle.paper.specs.Number.{refused};
 ghost use Rattle.paper.specs.Parts.{Bytes};

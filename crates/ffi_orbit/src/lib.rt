@@ -1,6 +1,8 @@
 // The numbers of `orbit` for C and Rust, under plain names, in a crate of its own: what is compiled for the store's other calls stays as it is,
 // and who reads no numbers links none of this. Beside a refusal every number is 0. What is owed with a pointer from C stands
-// in include/dawnstook.h.
+// in include/dawnstook.h. The archive has these calls from `ffi_orbit_c`.
+#![tactic(auto)]
+
 ghost use Rattle.std.specs.Prelude.{◌≡◌, length};
 ghost use Rattle.paper.specs.Number.{refused};
 ghost use Rattle.paper.specs.Record.{CED, Timing as TIMING, family_if};
