@@ -1,5 +1,7 @@
 // The store's calls, under the names of the Rust. Each tests its own input, answers by an enum whose number and values are the
 // those of STORE 14, and changes the lent room only where it answers 0.
+#![tactic(auto)]
+
 ghost use Rattle.std.specs.Prelude.{◌≡◌};
 ghost use Rattle.paper.specs.Answer.{fresh_answer, fresh_room, feed_answer, feed_room, tag_answer, tag_room};
 ghost use Rattle.paper.specs.Answer.{candidate_answer, candidate_data, ask_answer, ask_data, reset_answer, reset_room};
@@ -16,6 +18,7 @@ use svn::Svn;
 use tags::{Candidate, Tagged};
 
 // A fresh store of d rows and n slots at the start of the room, under an ageing rule (0 by the moves of the ring, 1 by time).
+#[tactic(auto, unfolding(paper::specs::Answer::fresh_room))]
 pub fn fresh(room: &mut [u8], d: u8, n: u8, rule: u8) -> Reply
     ensures { (reply_answer result ≡ fresh_answer d n rule room.old)
         × (room.new ≡ fresh_room d n rule room.old) }
@@ -29,6 +32,7 @@ pub fn fresh(room: &mut [u8], d: u8, n: u8, rule: u8) -> Reply
 }
 
 // All counts put to 0.
+#[tactic(auto, unfolding(paper::specs::Answer::reset_number, paper::specs::Answer::reset_room))]
 pub fn reset_authbits(room: &mut [u8]) -> Reply
     ensures { (reply_answer result ≡ reset_answer room.old)
         × (room.new ≡ reset_room room.old) }
@@ -41,6 +45,7 @@ pub fn reset_authbits(room: &mut [u8]) -> Reply
 }
 
 // A word of a satellite, received at a time on a band (0 E1B, 1 E5B).
+#[tactic(auto, unfolding(paper::specs::Answer::feed_room))]
 pub fn feed(room: &mut [u8], word: &[u8], svn: Svn, gst: Gst, band: u8) -> Reply
     ensures { (reply_answer result ≡ feed_answer word.now svn.0 gst.wn.0 gst.tow.0 band room.old)
         × (room.new ≡ feed_room word.now svn.0 gst.wn.0 gst.tow.0 band room.old) }
@@ -55,6 +60,7 @@ pub fn feed(room: &mut [u8], word: &[u8], svn: Svn, gst: Gst, band: u8) -> Reply
 
 // A tag that was checked: for which satellite and kind, with which COP and length, under which status, in a MACK of which time, over
 // which data, and with which verdict.
+#[tactic(auto, unfolding(paper::specs::Tag::family_of))]
 pub fn tag(
     room: &mut [u8],
     svn: Svn,
@@ -99,6 +105,7 @@ pub fn candidate(room: &[u8], svn: Svn, kind: u8, cop: u8, mack: Gst) -> Reply
 }
 
 // The candidate's data as a slice of the room, or the empty slice.
+#[tactic(auto, unfolding(paper::specs::Tag::family_of))]
 pub fn candidate_data(room: &[u8], svn: Svn, kind: u8, cop: u8, mack: Gst) -> &[u8]
     ensures { result.now ≡ candidate_data svn.0 kind cop mack.wn.0 mack.tow.0 room.now }
 {

@@ -1,0 +1,25 @@
+-- `data_for` hands out the data at the place that `ask` answered, or the empty slice.
+use mathlib.Core.Path.{sym, ap, ◌∙◌}
+use Rattle.paper.specs.Record.{family_if}
+use Rattle.ask.specs.Answered.{answered_answer, place_answered}
+use Rattle.ask.proofs.Tells.{answer_there, no_data}
+use Rattle.navmessage.proofs.data_for.Goals as goal
+
+pub data_of-requires : goal.data_of-requires
+data_of-requires c =
+    let a = c.args in
+    let is = sym c.in-Record.is in
+    (answer_there (family_if a.timing) a.svn.0 a.room.now _ _ (ap answered_answer is ∙ c.ask.ensures.0)
+    (ap place_answered is ∙ c.ask.ensures.1)).inside
+
+pub returns-in-Record : goal.returns-in-Record
+returns-in-Record c =
+    let a = c.args in
+    let is = sym c.in-Record.is in
+    let there = answer_there (family_if a.timing) a.svn.0 a.room.now _ _ (ap answered_answer is ∙ c.ask.ensures.0) in
+    c.data_of.ensures ∙ (there (ap place_answered is ∙ c.ask.ensures.1)).bytes
+
+pub returns-in-Refused : goal.returns-in-Refused
+returns-in-Refused c =
+    let a = c.args in
+    no_data (family_if a.timing) a.svn.0 a.room.now _ (ap answered_answer (sym c.in-Refused.is) ∙ c.ask.ensures.0)
