@@ -179,6 +179,7 @@ pub extern "C" fn dawnstook_tag(
 
 // The candidate of a tag of this kind and COP, as a slice of the room.
 #[unsafe(no_mangle)]
+#[tactic(auto, unfolding(paper::specs::Tag::family_of))]
 pub extern "C" fn dawnstook_candidate(
     room: &[u8],
     sat: u8,

@@ -8,7 +8,7 @@ ghost use Rattle.fields.specs.Words.{word1_from, word2_from, word3_from, word4_f
 
 // Word 1: the issue of the data, the reference time of the orbit, mean anomaly, eccentricity, square root of the semi-major axis.
 #[repr(C)]
-#[derive(Drop)]
+#[derive(Clone, Copy)]
 pub struct Word1 {
     pub iodnav: u32,
     pub t0e: u32,
@@ -35,7 +35,7 @@ impl Word1 {
 
 // Word 2: longitude of the ascending node, inclination, argument of perigee, rate of the inclination.
 #[repr(C)]
-#[derive(Drop)]
+#[derive(Clone, Copy)]
 pub struct Word2 {
     pub iodnav: u32,
     pub omega0: i32,
@@ -62,7 +62,7 @@ impl Word2 {
 
 // Word 3: rate of the right ascension, correction of the mean motion, harmonic corrections, the index of the signal's accuracy.
 #[repr(C)]
-#[derive(Drop)]
+#[derive(Clone, Copy)]
 pub struct Word3 {
     pub iodnav: u32,
     pub omega_dot: i32,
@@ -105,7 +105,7 @@ impl Word3 {
 
 // Word 4: the satellite, harmonic corrections, the clock's reference time and its polynomial.
 #[repr(C)]
-#[derive(Drop)]
+#[derive(Clone, Copy)]
 pub struct Word4 {
     pub iodnav: u32,
     pub svid: u32,
@@ -148,7 +148,7 @@ impl Word4 {
 
 // Word 5: the ionosphere's terms and flags, broadcast group delays, health and validity.
 #[repr(C)]
-#[derive(Drop)]
+#[derive(Clone, Copy)]
 pub struct Word5 {
     pub ai0: u32,
     pub ai1: i32,
@@ -215,7 +215,7 @@ impl Word5 {
 
 // Word 6: GST to UTC, leap seconds.
 #[repr(C)]
-#[derive(Drop)]
+#[derive(Clone, Copy)]
 pub struct Word6 {
     pub a0: i32,
     pub a1: i32,
@@ -258,7 +258,7 @@ impl Word6 {
 
 // The end of word 10: GST to GPS time.
 #[repr(C)]
-#[derive(Drop)]
+#[derive(Clone, Copy)]
 pub struct Word10 {
     pub a0g: i32,
     pub a1g: i32,

@@ -35,7 +35,7 @@ const READING: usize = (1 + 3) + 3 * SPACED + (1 + 2 * Ced::BYTES);
 pub const LONGEST_LINE: usize = 2 + MOST_DIGITS + READING + 1;
 
 // What an item asks for.
-#[derive(Drop)]
+#[derive(Clone, Copy)]
 pub enum Kind {
     Word,
     Tag,

@@ -1,5 +1,7 @@
 // The orbit, and the timing parameters, as numbers (STORE 20): what asking hands out, each field as a whole number, and those that are
 // scaled by a power of two as doubles too. The data is looked into only where asking hands it out.
+#![tactic(auto)]
+
 ghost use Rattle.std.specs.Prelude.{◌≡◌, eqb};
 ghost use Rattle.paper.specs.Record.{CED, Timing as TIMING, family_if};
 ghost use Rattle.paper.specs.Orbit.{one_issue, svid_of, numbers_answer, numbers_data};
@@ -169,6 +171,7 @@ pub enum GotTiming {
     Refused(Refusal),
 }
 
+#[tactic(auto, unfolding(crate::specs::Numbers::scaled_of, crate::specs::Numbers::scaled_from, fields::specs::Words::word1_numbers, fields::specs::Words::word2_numbers, fields::specs::Words::word3_numbers, fields::specs::Words::word4_numbers, fields::specs::Words::word5_numbers, paper::specs::Double::doubles_of, paper::specs::Field::named, paper::specs::Field::fields_along, paper::specs::Word::table, paper::specs::Field::fields_in, paper::specs::Field::layouts))]
 fn scaled_of(w1: Word1, w2: Word2, w3: Word3, w4: Word4, w5: Word5) -> Scaled
     ensures { result ≡ scaled_of w1 w2 w3 w4 w5 }
 {
@@ -199,6 +202,7 @@ fn scaled_of(w1: Word1, w2: Word2, w3: Word3, w4: Word4, w5: Word5) -> Scaled
     }
 }
 
+#[tactic(auto, unfolding(crate::specs::Numbers::scaled_timing_of, crate::specs::Numbers::scaled_timing_from, fields::specs::Words::word6_numbers, fields::specs::Words::word10_numbers, paper::specs::Double::doubles_of, paper::specs::Field::named, paper::specs::Field::fields_along, paper::specs::Word::table, paper::specs::Field::fields_in, paper::specs::Field::layouts))]
 fn scaled_timing(w6: Word6, w10: Word10) -> ScaledTiming
     ensures { result ≡ scaled_timing_of w6 w10 }
 {
@@ -211,6 +215,7 @@ fn scaled_timing(w6: Word6, w10: Word10) -> ScaledTiming
 }
 
 // The numbers of CED data; those of no data are 0.
+#[tactic(auto, unfolding(crate::specs::Numbers::orbit_from, paper::specs::Field::in_record, paper::specs::Word::table))]
 pub fn orbit_of(bytes: &[u8]) -> Orbit
     ensures { result ≡ orbit_from bytes.now }
 {
@@ -231,6 +236,7 @@ pub fn orbit_of(bytes: &[u8]) -> Orbit
 }
 
 // The numbers of timing data; those of no data are 0.
+#[tactic(auto, unfolding(crate::specs::Numbers::timing_from, paper::specs::Field::in_record, paper::specs::Word::table))]
 pub fn timing_of(bytes: &[u8]) -> TimingNumbers
     ensures { result ≡ timing_from bytes.now }
 {
@@ -245,6 +251,7 @@ pub fn timing_of(bytes: &[u8]) -> TimingNumbers
 }
 
 // STORE 20.6: whether the four IODnav are all equal
+#[tactic(auto, unfolding(paper::specs::Orbit::one_issue, paper::specs::Field::named, paper::specs::Field::numbers_at, paper::specs::Field::fields_in, paper::specs::Field::layouts, paper::specs::Field::in_record, paper::specs::Word::table))]
 fn one_issue(bytes: &[u8]) -> bool
     ensures { result ≡ one_issue bytes.now }
 {
@@ -259,6 +266,7 @@ fn one_issue(bytes: &[u8]) -> bool
 }
 
 // STORE 20.6: whether word 4 names the satellite
+#[tactic(auto, unfolding(paper::specs::Field::named, paper::specs::Field::numbers_at, paper::specs::Field::fields_in, paper::specs::Field::layouts, paper::specs::Field::in_record, paper::specs::Word::table))]
 fn names(bytes: &[u8], sat: u8) -> bool
     ensures { result ≡ eqb (svid_of bytes.now) sat }
 {
@@ -266,6 +274,7 @@ fn names(bytes: &[u8], sat: u8) -> bool
 }
 
 // Where the data may be read: 3, 4, 12, 24, 7, and for CED 21, 22.
+#[tactic(auto, unfolding(paper::specs::Orbit::numbers_tests))]
 pub fn place(room: &[u8], timing: bool, svn: Svn) -> Placed
     ensures { (placed_answer result ≡ numbers_answer (family_if timing) svn.0 room.now)
         × (place_placed result ≡ numbers_place (family_if timing) svn.0 room.now) }
@@ -306,6 +315,7 @@ pub fn get_orbit(room: &[u8], svn: Svn) -> GotOrbit
 }
 
 // Authenticated timing parameters of a satellite, as numbers.
+#[tactic(auto, unfolding(paper::specs::Orbit::numbers_tests))]
 pub fn get_timing_numbers(room: &[u8], svn: Svn) -> GotTiming
     ensures { (got_timing_answer result ≡ numbers_answer TIMING svn.0 room.now)
         × (got_timing result ≡ timing_from (numbers_data TIMING svn.0 room.now)) }
