@@ -15,3 +15,6 @@ returns-then-data-eq-BYTES-2 c = copied_all c.if-data-eq-BYTES-2.true c.put_byte
 
 pub returns : goal.returns
 returns c = copied_whole c.put_bytes-2.ensures
+
+pub slice_bounds-put_bytes-end-then-data-eq-BYTES-2 : goal.slice_bounds-put_bytes-end-then-data-eq-BYTES-2
+slice_bounds-put_bytes-end-then-data-eq-BYTES-2 c = simp length-take (omega arith)

@@ -22,21 +22,18 @@ returns-in-At c =
 
 pub returns-in-IssuesDiffer : goal.returns-in-IssuesDiffer
 returns-in-IssuesDiffer c =
-    let told = c.enum_told-1 in
     let a = c.args in
-    let e = ap placed_answer (sym told.given.1) ∙ c.place.ensures.0 in
+    let e = ap placed_answer (sym c.in-IssuesDiffer.is) ∙ c.place.ensures.0 in
     (e, ap orbit_from (no_numbers CED a.svn.0 a.room.now _ e))
 
 pub returns-in-OtherSatellite : goal.returns-in-OtherSatellite
 returns-in-OtherSatellite c =
-    let told = c.enum_told-in-OtherSatellite-1 in
     let a = c.args in
-    let e = ap placed_answer (sym told.given.1) ∙ c.place.ensures.0 in
+    let e = ap placed_answer (sym c.in-OtherSatellite.is) ∙ c.place.ensures.0 in
     (e, ap orbit_from (no_numbers CED a.svn.0 a.room.now _ e))
 
 pub returns-in-Refused : goal.returns-in-Refused
 returns-in-Refused c =
-    let told = c.why-1 in
     let a = c.args in
-    let e = ap placed_answer (sym told.given.1) ∙ c.place.ensures.0 in
+    let e = ap placed_answer (sym c.in-Refused.is) ∙ c.place.ensures.0 in
     (e, ap orbit_from (no_numbers CED a.svn.0 a.room.now _ e))
