@@ -147,7 +147,7 @@ const WORD6_AT: usize = 0;
 const WORD10_AT: usize = WORD6_AT + Word6::BITS;
 
 // Where the record starts whose data may be read as numbers, its count and its time; or why there is none.
-#[derive(Drop)]
+#[derive(Clone, Copy)]
 pub enum Placed {
     At(usize, u16, Gst),
     IssuesDiffer,

@@ -23,7 +23,7 @@ pub const OTHER_SATELLITE: u8 = 22;
 pub const PADDING_SET: u8 = 26;
 
 // The refusals of the calls; each has its number in STORE 14.1.
-#[derive(Drop)]
+#[derive(Clone, Copy)]
 pub enum Refusal {
     // 1: D, N or the ageing rule outside its range
     Sizes,
