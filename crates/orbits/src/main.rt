@@ -46,7 +46,6 @@ fn signed(rt: HostRuntime, n: i32) {
 }
 
 // A space and the bits of a double. A NaN has none to print; no field is one (STORE 20.4), and it would show.
-#[tactic(auto, unfolding(lib::Ieee::eq, lib::Ieee::is_nan))]
 fn double(rt: HostRuntime, x: f64) {
     if x == x {
         text(rt, b" ");
