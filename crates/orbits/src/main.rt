@@ -15,6 +15,9 @@ use std::io;
 use std::io::Read;
 use svn::Svn;
 
+// the digits of a double's bits in hex
+const DIGITS: usize = 16;
+
 // A line on standard error where standard output could not be written.
 fn heard(rt: HostRuntime, written: io::Result<()>) {
     if written.is_err() {
@@ -50,7 +53,7 @@ fn double(rt: HostRuntime, x: f64) {
     if x == x {
         text(rt, b" ");
         let bits = f64::to_bits(x);
-        heard(rt, print!(rt; "{bits:016x}"));
+        heard(rt, print!(rt; "{bits:0DIGITS$x}"));
         return;
     }
     text(rt, b" NaN");
