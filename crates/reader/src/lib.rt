@@ -56,7 +56,8 @@ fn take(
         if !print(rt, &out[..said]) {
             return Course::Unwritten;
         }
-        if heard.number != 0 {
+        let over = heard.number != 0;
+        if over {
             return Course::Over;
         }
         at += heard.took;

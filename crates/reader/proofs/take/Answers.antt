@@ -12,10 +12,10 @@ returns-then-not-print c =
     let t = c.part-heard.ensures in
     offer_some _ _ _ _ _ _ c.loop-at.invariant.1.0 _ _ _ _ _ _ _ t.took t.reader_after
 
-pub returns-then-heard-ne0 : goal.returns-then-heard-ne0
-returns-then-heard-ne0 c =
+pub returns-then-over : goal.returns-then-over
+returns-then-over c =
     let t = c.part-heard.ensures in
-    over _ _ _ _ _ _ c.loop-at.invariant.1.0 _ _ _ _ _ _ _ t.took t.reader_after _ t.number_value c.if-heard-ne0.true
+    over _ _ _ _ _ _ c.loop-at.invariant.1.0 _ _ _ _ _ _ _ t.took t.reader_after _ t.number_value c.if-over.true
 
 pub overflow_add-at : goal.overflow_add-at
 overflow_add-at c =
@@ -37,6 +37,6 @@ loop-at-preserved c =
       (part.auto.room ∙ h.0.0, part.auto.out ∙ h.0.1),
       (
         offer_more _ _ _ _ _ _ h.1.0 _ _ _ _ _ _ _ t.took t.reader_after,
-        on _ _ _ _ _ _ h.1.0 _ _ _ _ _ _ _ t.took t.reader_after _ t.number_value c.if-heard-ne0.false,
+        on _ _ _ _ _ _ h.1.0 _ _ _ _ _ _ _ t.took t.reader_after _ t.number_value c.if-over.false,
       ),
     )
