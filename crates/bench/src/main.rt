@@ -1,4 +1,6 @@
 // The bench program (STORE 17): items from standard input, a line for each.
-fn main() {
-    reader::run(false);
+#![tactic(auto)]
+
+fn main(rt: HostRuntime) {
+    reader::run(rt, false);
 }

@@ -5,15 +5,17 @@
 // A line says the call and its numbers, then after the colon what came back: the number of STORE 14.1 and its values, for a slice
 // that is handed out its length and its Adler-32, and last the Adler-32 of the whole room, which stays where the number is not 0. The
 // lines that the gate compares with are those of tools/model, which was written from the rules (STORE 1.1, 7.7) and not from this program.
+#![tactic(auto)]
+
 use gst::{Gst, Tow, Wn};
 use layout::{
     CURRENT_AT, DEPTH_AT, HEADER, MARK_AT, ROW_HEAD, RULE_AT, SLOT, SLOTS_AT, SPARE_AT, TIME_AT,
     TIMING_AT, WEEK_AT, ZEROS_AT,
 };
-use libc::{STDERR_FILENO, STDOUT_FILENO};
 use navmessage::Asked;
 use records::{AGES_AT, COUNT_AT};
 use refusals::Reply;
+use std::io;
 use svn::Svn;
 use tags::Tagged;
 
@@ -47,47 +49,47 @@ const T30: u32 = 175770;
 const T60: u32 = 175800;
 
 // A line on standard error where standard output could not be written.
-fn heard(written: bool) {
-    if !written {
-        io::write_all(STDERR_FILENO, b"cannot write to standard output\n");
+fn heard(rt: HostRuntime, written: io::Result<()>) {
+    if written.is_err() {
+        let _ = eprintln!(rt; "cannot write to standard output");
     }
 }
 
-fn text(letters: &[u8]) {
-    heard(io::write_all(STDOUT_FILENO, letters));
+fn text(rt: HostRuntime, letters: &[u8]) {
+    heard(rt, rt.write_all(letters));
 }
 
-fn number(n: u64) {
-    text(b" ");
-    heard(io::print_decimal(STDOUT_FILENO, n));
+fn number(rt: HostRuntime, n: u64) {
+    text(rt, b" ");
+    heard(rt, print!(rt; "{n}"));
 }
 
-fn byte(n: u8) {
-    number(n as u64);
+fn byte(rt: HostRuntime, n: u8) {
+    number(rt, n as u64);
 }
 
-fn sum(bytes: &[u8]) {
+fn sum(rt: HostRuntime, bytes: &[u8]) {
     let sum = adler::adler32(bytes);
-    number(sum as u64);
+    number(rt, sum as u64);
 }
 
-fn part(bytes: &[u8]) {
-    text(b", part");
-    number(bytes.len() as u64);
-    sum(bytes);
+fn part(rt: HostRuntime, bytes: &[u8]) {
+    text(rt, b", part");
+    number(rt, bytes.len() as u64);
+    sum(rt, bytes);
 }
 
-fn end(room: &[u8]) {
-    text(b" #");
-    sum(room);
-    text(b"\n");
+fn end(rt: HostRuntime, room: &[u8]) {
+    text(rt, b" #");
+    sum(rt, room);
+    text(rt, b"\n");
 }
 
-fn time(gst: Gst) {
+fn time(rt: HostRuntime, gst: Gst) {
     let week = gst.wn.0;
     let time = gst.tow.0;
-    number(week as u64);
-    number(time as u64);
+    number(rt, week as u64);
+    number(rt, time as u64);
 }
 
 fn at(week: u16, time: u32) -> Gst {
@@ -97,67 +99,76 @@ fn at(week: u16, time: u32) -> Gst {
     }
 }
 
-fn reply(reply: Reply) {
+fn reply(rt: HostRuntime, reply: Reply) {
     match reply {
-        Reply::Done => number(0),
-        Reply::Refused(why) => byte(refusals::number(why)),
+        Reply::Done => number(rt, 0),
+        Reply::Refused(why) => byte(rt, refusals::number(why)),
     }
 }
 
-fn tagged(tagged: Tagged) {
+fn tagged(rt: HostRuntime, tagged: Tagged) {
     match tagged {
         Tagged::Taken(n) => {
-            number(0);
-            number(n as u64);
+            number(rt, 0);
+            number(rt, n as u64);
         }
-        Tagged::Refused(why) => byte(refusals::number(why)),
+        Tagged::Refused(why) => byte(rt, refusals::number(why)),
     }
 }
 
-fn asked(asked: Asked) {
+fn asked(rt: HostRuntime, asked: Asked) {
     match asked {
         Asked::Found(reading) => {
             let authbits = reading.authbits;
-            number(0);
-            number(authbits as u64);
-            time(reading.gst);
+            number(rt, 0);
+            number(rt, authbits as u64);
+            time(rt, reading.gst);
         }
-        Asked::Refused(why) => byte(refusals::number(why)),
+        Asked::Refused(why) => byte(rt, refusals::number(why)),
     }
 }
 
-fn fresh(room: &mut [u8; ROOM], d: u8, n: u8, rule: u8) {
-    text(b"fresh");
-    byte(d);
-    byte(n);
-    byte(rule);
-    text(b":");
-    reply(navmessage::fresh(room, d, n, rule));
-    end(room);
+fn fresh(rt: HostRuntime, room: &mut [u8; ROOM], d: u8, n: u8, rule: u8) {
+    text(rt, b"fresh");
+    byte(rt, d);
+    byte(rt, n);
+    byte(rt, rule);
+    text(rt, b":");
+    reply(rt, navmessage::fresh(room, d, n, rule));
+    end(rt, room);
 }
 
-fn feed(room: &mut [u8; ROOM], word: &[u8], svn: u8, week: u16, tow: u32, band: u8) {
+fn feed(
+    rt: HostRuntime,
+    room: &mut [u8; ROOM],
+    word: &[u8],
+    svn: u8,
+    week: u16,
+    tow: u32,
+    band: u8,
+) {
     let gst = at(week, tow);
-    text(b"feed");
-    byte(svn);
-    time(gst);
-    byte(band);
-    text(b" word");
-    number(word.len() as u64);
-    sum(word);
-    text(b":");
-    reply(navmessage::feed(room, word, Svn(svn), gst, band));
-    end(room);
+    text(rt, b"feed");
+    byte(rt, svn);
+    time(rt, gst);
+    byte(rt, band);
+    text(rt, b" word");
+    number(rt, word.len() as u64);
+    sum(rt, word);
+    text(rt, b":");
+    reply(rt, navmessage::feed(room, word, Svn(svn), gst, band));
+    end(rt, room);
 }
 
 // A word on E1B of one byte throughout, but for its first, which has the type in its upper six bits.
-fn word(room: &mut [u8; ROOM], first: u8, fill: u8, svn: u8, week: u16, tow: u32) {
+fn word(rt: HostRuntime, room: &mut [u8; ROOM], first: u8, fill: u8, svn: u8, week: u16, tow: u32) {
     let mut word = [fill; 16];
     word[0] = first;
-    feed(room, &word, svn, week, tow, 0);
+    feed(rt, room, &word, svn, week, tow, 0);
 }
 
 fn tag(
+    rt: HostRuntime,
     room: &mut [u8; ROOM],
     svn: u8,
     kind: u8,
@@ -169,22 +180,26 @@ fn tag(
     given: &[u8],
 ) {
     let mack = at(week, tow);
-    text(b"tag");
-    byte(svn);
-    byte(kind);
-    byte(cop);
-    byte(bits);
-    byte(status);
-    time(mack);
-    text(b" given");
-    number(given.len() as u64);
-    sum(given);
-    text(b":");
-    tagged(navmessage::tag(room, Svn(svn), kind, cop, bits, status, mack, given, true));
-    end(room);
+    text(rt, b"tag");
+    byte(rt, svn);
+    byte(rt, kind);
+    byte(rt, cop);
+    byte(rt, bits);
+    byte(rt, status);
+    time(rt, mack);
+    text(rt, b" given");
+    number(rt, given.len() as u64);
+    sum(rt, given);
+    text(rt, b":");
+    tagged(
+        rt,
+        navmessage::tag(room, Svn(svn), kind, cop, bits, status, mack, given, true),
+    );
+    end(rt, room);
 }
 
 fn tag_no(
+    rt: HostRuntime,
     room: &mut [u8; ROOM],
     svn: u8,
     kind: u8,
@@ -195,64 +210,79 @@ fn tag_no(
     given: &[u8],
 ) {
     let mack = at(week, tow);
-    text(b"tag with the verdict no");
-    byte(svn);
-    byte(kind);
-    byte(cop);
-    byte(status);
-    text(b":");
-    tagged(navmessage::tag(room, Svn(svn), kind, cop, 40, status, mack, given, false));
-    end(room);
+    text(rt, b"tag with the verdict no");
+    byte(rt, svn);
+    byte(rt, kind);
+    byte(rt, cop);
+    byte(rt, status);
+    text(rt, b":");
+    tagged(
+        rt,
+        navmessage::tag(room, Svn(svn), kind, cop, 40, status, mack, given, false),
+    );
+    end(rt, room);
 }
 
-fn candidate(room: &[u8; ROOM], svn: u8, kind: u8, cop: u8, week: u16, tow: u32) {
+fn candidate(rt: HostRuntime, room: &[u8; ROOM], svn: u8, kind: u8, cop: u8, week: u16, tow: u32) {
     let mack = at(week, tow);
-    text(b"candidate");
-    byte(svn);
-    byte(kind);
-    byte(cop);
-    time(mack);
-    text(b":");
-    reply(navmessage::candidate(room, Svn(svn), kind, cop, mack));
-    part(navmessage::candidate_data(room, Svn(svn), kind, cop, mack));
-    end(room);
+    text(rt, b"candidate");
+    byte(rt, svn);
+    byte(rt, kind);
+    byte(rt, cop);
+    time(rt, mack);
+    text(rt, b":");
+    reply(rt, navmessage::candidate(room, Svn(svn), kind, cop, mack));
+    part(
+        rt,
+        navmessage::candidate_data(room, Svn(svn), kind, cop, mack),
+    );
+    end(rt, room);
 }
 
-fn ask(room: &[u8; ROOM], svn: u8) {
-    text(b"ask for CED");
-    byte(svn);
-    text(b":");
-    asked(navmessage::get_ced_and_status(room, Svn(svn)));
-    part(navmessage::ced_and_status_data(room, Svn(svn)));
-    end(room);
-    text(b"ask for timing");
-    byte(svn);
-    text(b":");
-    asked(navmessage::get_timing_parameters(room, Svn(svn)));
-    part(navmessage::timing_parameters_data(room, Svn(svn)));
-    end(room);
+fn ask(rt: HostRuntime, room: &[u8; ROOM], svn: u8) {
+    text(rt, b"ask for CED");
+    byte(rt, svn);
+    text(rt, b":");
+    asked(rt, navmessage::get_ced_and_status(room, Svn(svn)));
+    part(rt, navmessage::ced_and_status_data(room, Svn(svn)));
+    end(rt, room);
+    text(rt, b"ask for timing");
+    byte(rt, svn);
+    text(rt, b":");
+    asked(rt, navmessage::get_timing_parameters(room, Svn(svn)));
+    part(rt, navmessage::timing_parameters_data(room, Svn(svn)));
+    end(rt, room);
 }
 
-fn reset(room: &mut [u8; ROOM]) {
-    text(b"reset:");
-    reply(navmessage::reset_authbits(room));
-    end(room);
+fn reset(rt: HostRuntime, room: &mut [u8; ROOM]) {
+    text(rt, b"reset:");
+    reply(rt, navmessage::reset_authbits(room));
+    end(rt, room);
 }
 
 // Every call but fresh, with nothing else to refuse.
-fn every(room: &mut [u8; ROOM]) {
+fn every(rt: HostRuntime, room: &mut [u8; ROOM]) {
     let word = [4; 16];
     let given = [255; 69];
-    reply(navmessage::feed(room, &word, Svn(5), at(WEEK, T), 0));
-    tagged(navmessage::tag(room, Svn(5), 0, 15, 40, 2, at(WEEK, T30), &given, true));
-    reply(navmessage::candidate(room, Svn(5), 0, 15, at(WEEK, T30)));
-    part(navmessage::candidate_data(room, Svn(5), 0, 15, at(WEEK, T30)));
-    asked(navmessage::get_ced_and_status(room, Svn(5)));
-    part(navmessage::ced_and_status_data(room, Svn(5)));
-    asked(navmessage::get_timing_parameters(room, Svn(5)));
-    part(navmessage::timing_parameters_data(room, Svn(5)));
-    reply(navmessage::reset_authbits(room));
-    end(room);
+    reply(rt, navmessage::feed(room, &word, Svn(5), at(WEEK, T), 0));
+    tagged(
+        rt,
+        navmessage::tag(room, Svn(5), 0, 15, 40, 2, at(WEEK, T30), &given, true),
+    );
+    reply(
+        rt,
+        navmessage::candidate(room, Svn(5), 0, 15, at(WEEK, T30)),
+    );
+    part(
+        rt,
+        navmessage::candidate_data(room, Svn(5), 0, 15, at(WEEK, T30)),
+    );
+    asked(rt, navmessage::get_ced_and_status(room, Svn(5)));
+    part(rt, navmessage::ced_and_status_data(room, Svn(5)));
+    asked(rt, navmessage::get_timing_parameters(room, Svn(5)));
+    part(rt, navmessage::timing_parameters_data(room, Svn(5)));
+    reply(rt, navmessage::reset_authbits(room));
+    end(rt, room);
 }
 
 fn read(room: &[u8; ROOM], place: usize) -> u8 {
@@ -269,181 +299,193 @@ fn write(room: &mut [u8; ROOM], place: usize, value: u8) {
 }
 
 // Every call on the room with one byte changed; then the byte is put back.
-fn spoilt(room: &mut [u8; ROOM], place: usize, value: u8) {
+fn spoilt(rt: HostRuntime, room: &mut [u8; ROOM], place: usize, value: u8) {
     let old = read(room, place);
     write(room, place, value);
-    text(b"byte");
-    number(place as u64);
-    text(b" is");
-    byte(value);
-    text(b":");
-    every(room);
+    text(rt, b"byte");
+    number(rt, place as u64);
+    text(rt, b" is");
+    byte(rt, value);
+    text(rt, b":");
+    every(rt, room);
     write(room, place, old);
 }
 
 // A fresh store on a room that is a byte short of D 2 and N 2.
-fn fresh_short(d: u8, n: u8, rule: u8) {
+fn fresh_short(rt: HostRuntime, d: u8, n: u8, rule: u8) {
     let mut room = [7; STORE - 1];
-    text(b"fresh on a byte less");
-    byte(d);
-    byte(n);
-    byte(rule);
-    text(b":");
-    reply(navmessage::fresh(&mut room, d, n, rule));
-    end(&room);
+    text(rt, b"fresh on a byte less");
+    byte(rt, d);
+    byte(rt, n);
+    byte(rt, rule);
+    text(rt, b":");
+    reply(rt, navmessage::fresh(&mut room, d, n, rule));
+    end(rt, &room);
 }
 
 // The calls that are lent the room to write.
-fn every_written(room: &mut [u8]) {
+fn every_written(rt: HostRuntime, room: &mut [u8]) {
     let word = [4; 16];
     let given = [255; 69];
-    reply(navmessage::feed(room, &word, Svn(5), at(WEEK, T), 0));
-    tagged(navmessage::tag(room, Svn(5), 0, 15, 40, 2, at(WEEK, T30), &given, true));
-    reply(navmessage::reset_authbits(room));
-    end(room);
+    reply(rt, navmessage::feed(room, &word, Svn(5), at(WEEK, T), 0));
+    tagged(
+        rt,
+        navmessage::tag(room, Svn(5), 0, 15, 40, 2, at(WEEK, T30), &given, true),
+    );
+    reply(rt, navmessage::reset_authbits(room));
+    end(rt, room);
 }
 
 // They on a store of D 2 and N 2 that lacks its last byte, on a header that does, and on no room at all.
-fn every_short() {
+fn every_short(rt: HostRuntime) {
     let mut room = [0; STORE - 1];
     room[DEPTH_AT] = 2;
     room[SLOTS_AT] = 2;
-    text(b"on a byte less:");
-    every_written(&mut room);
-    text(b"on less than a header:");
-    every_written(&mut room[0..HEADER - 1]);
-    text(b"on nothing:");
-    every_written(&mut room[0..0]);
+    text(rt, b"on a byte less:");
+    every_written(rt, &mut room);
+    text(rt, b"on less than a header:");
+    every_written(rt, &mut room[0..HEADER - 1]);
+    text(rt, b"on nothing:");
+    every_written(rt, &mut room[0..0]);
 }
 
 // 1, 2 and 0.
-fn fresh_calls(room: &mut [u8; ROOM]) {
-    reset(room);
-    fresh(room, 0, 2, 0);
-    fresh(room, 17, 2, 0);
-    fresh(room, 2, 0, 0);
-    fresh(room, 2, 37, 0);
-    fresh(room, 2, 3, 0);
-    fresh_short(2, 2, 0);
-    fresh_short(2, 37, 0);
-    fresh_short(1, 1, 0);
-    every_short();
-    fresh(room, 1, 1, 0);
+fn fresh_calls(rt: HostRuntime, room: &mut [u8; ROOM]) {
+    reset(rt, room);
+    fresh(rt, room, 0, 2, 0);
+    fresh(rt, room, 17, 2, 0);
+    fresh(rt, room, 2, 0, 0);
+    fresh(rt, room, 2, 37, 0);
+    fresh(rt, room, 2, 3, 0);
+    fresh_short(rt, 2, 2, 0);
+    fresh_short(rt, 2, 37, 0);
+    fresh_short(rt, 1, 1, 0);
+    every_short(rt);
+    fresh(rt, room, 1, 1, 0);
 }
 
 // The same of the rule: 1 before 2, and a refused one leaves the store that ages by time.
-fn fresh_rules(room: &mut [u8; ROOM]) {
-    fresh(room, 2, 2, 2);
-    fresh(room, 2, 2, 255);
-    fresh(room, 2, 3, 2);
-    fresh(room, 2, 3, 1);
-    fresh_short(2, 2, 2);
-    fresh_short(2, 2, 1);
-    fresh_short(1, 1, 1);
-    fresh(room, 2, 2, 1);
-    fresh(room, 2, 2, 2);
-    fresh(room, 0, 2, 0);
-    word(room, 4, 255, 5, WEEK, T30);
-    word(room, 4, 255, 5, WEEK, T);
-    fresh(room, 2, 2, 0);
+fn fresh_rules(rt: HostRuntime, room: &mut [u8; ROOM]) {
+    fresh(rt, room, 2, 2, 2);
+    fresh(rt, room, 2, 2, 255);
+    fresh(rt, room, 2, 3, 2);
+    fresh(rt, room, 2, 3, 1);
+    fresh_short(rt, 2, 2, 2);
+    fresh_short(rt, 2, 2, 1);
+    fresh_short(rt, 1, 1, 1);
+    fresh(rt, room, 2, 2, 1);
+    fresh(rt, room, 2, 2, 2);
+    fresh(rt, room, 0, 2, 0);
+    word(rt, room, 4, 255, 5, WEEK, T30);
+    word(rt, room, 4, 255, 5, WEEK, T);
+    fresh(rt, room, 2, 2, 0);
 }
 
 // 3, clause by clause: row 0 is marked and holds E05 in slot 1, row 1 is blank.
-fn no_store(room: &mut [u8; ROOM]) {
-    word(room, 4, 255, 5, WEEK, T);
-    spoilt(room, DEPTH_AT, 0);
-    spoilt(room, DEPTH_AT, 17);
-    spoilt(room, DEPTH_AT, 3);
-    spoilt(room, SLOTS_AT, 0);
-    spoilt(room, SLOTS_AT, 37);
-    spoilt(room, CURRENT_AT, 2);
-    spoilt(room, RULE_AT, 2);
-    spoilt(room, RULE_AT, 255);
-    spoilt(room, ZEROS_AT, 1);
-    spoilt(room, ZEROS_AT + 1, 1);
-    spoilt(room, ZEROS_AT + 2, 1);
-    spoilt(room, ZEROS_AT + 3, 1);
-    spoilt(room, HEADER + MARK_AT, 2);
-    spoilt(room, HEADER + TIME_AT + 3, 157);
-    spoilt(room, HEADER + TIME_AT + 1, 17);
-    spoilt(room, HEADER + SPARE_AT, 1);
+fn no_store(rt: HostRuntime, room: &mut [u8; ROOM]) {
+    word(rt, room, 4, 255, 5, WEEK, T);
+    spoilt(rt, room, DEPTH_AT, 0);
+    spoilt(rt, room, DEPTH_AT, 17);
+    spoilt(rt, room, DEPTH_AT, 3);
+    spoilt(rt, room, SLOTS_AT, 0);
+    spoilt(rt, room, SLOTS_AT, 37);
+    spoilt(rt, room, CURRENT_AT, 2);
+    spoilt(rt, room, RULE_AT, 2);
+    spoilt(rt, room, RULE_AT, 255);
+    spoilt(rt, room, ZEROS_AT, 1);
+    spoilt(rt, room, ZEROS_AT + 1, 1);
+    spoilt(rt, room, ZEROS_AT + 2, 1);
+    spoilt(rt, room, ZEROS_AT + 3, 1);
+    spoilt(rt, room, HEADER + MARK_AT, 2);
+    spoilt(rt, room, HEADER + TIME_AT + 3, 157);
+    spoilt(rt, room, HEADER + TIME_AT + 1, 17);
+    spoilt(rt, room, HEADER + SPARE_AT, 1);
 }
 
 // The rest of 3: the records of row 0, then row 1. The other rule is no reason.
-fn no_records(room: &mut [u8; ROOM]) {
-    spoilt(room, CED_1, 37);
-    spoilt(room, TIMING_1, 37);
-    spoilt(room, CED_0 + COUNT_AT, 1);
-    spoilt(room, TIMING_0 + COUNT_AT + 1, 1);
-    spoilt(room, TIMING_1 - 1, 4);
-    spoilt(room, ROW_1 - 1, 1);
-    spoilt(room, ROW_1 + WEEK_AT + 1, 1);
-    spoilt(room, ROW_1 + TIME_AT + 3, 30);
-    spoilt(room, ROW_1 + SPARE_AT, 1);
-    spoilt(room, NEXT_CED, 1);
-    spoilt(room, NEXT_CED + COUNT_AT + 1, 1);
-    spoilt(room, NEXT_TIMING, 1);
-    spoilt(room, NEXT_TIMING + COUNT_AT + 1, 1);
-    spoilt(room, STORE - 1, 2);
-    text(b"nothing changed:");
-    every(room);
-    spoilt(room, RULE_AT, 1);
+fn no_records(rt: HostRuntime, room: &mut [u8; ROOM]) {
+    spoilt(rt, room, CED_1, 37);
+    spoilt(rt, room, TIMING_1, 37);
+    spoilt(rt, room, CED_0 + COUNT_AT, 1);
+    spoilt(rt, room, TIMING_0 + COUNT_AT + 1, 1);
+    spoilt(rt, room, TIMING_1 - 1, 4);
+    spoilt(rt, room, ROW_1 - 1, 1);
+    spoilt(rt, room, ROW_1 + WEEK_AT + 1, 1);
+    spoilt(rt, room, ROW_1 + TIME_AT + 3, 30);
+    spoilt(rt, room, ROW_1 + SPARE_AT, 1);
+    spoilt(rt, room, NEXT_CED, 1);
+    spoilt(rt, room, NEXT_CED + COUNT_AT + 1, 1);
+    spoilt(rt, room, NEXT_TIMING, 1);
+    spoilt(rt, room, NEXT_TIMING + COUNT_AT + 1, 1);
+    spoilt(rt, room, STORE - 1, 2);
+    text(rt, b"nothing changed:");
+    every(rt, room);
+    spoilt(rt, room, RULE_AT, 1);
 }
 
 // A word of so many bytes, up to 17, each of them ones.
-fn feed_ones(room: &mut [u8; ROOM], bytes: usize, svn: u8, week: u16, tow: u32, band: u8) {
+fn feed_ones(
+    rt: HostRuntime,
+    room: &mut [u8; ROOM],
+    bytes: usize,
+    svn: u8,
+    week: u16,
+    tow: u32,
+    band: u8,
+) {
     let word = [255; 17];
     if bytes <= 17 {
-        feed(room, &word[0..bytes], svn, week, tow, band);
+        feed(rt, room, &word[0..bytes], svn, week, tow, band);
     }
 }
 
 // 4, 5, 8, 9, each before those that come later, and 0.
-fn feed_calls(room: &mut [u8; ROOM]) {
-    fresh(room, 2, 2, 0);
-    feed_ones(room, 15, 0, WEEK, 604800, 2);
-    feed_ones(room, 15, 37, WEEK, 604800, 2);
-    feed_ones(room, 15, 1, WEEK, 604800, 2);
-    feed_ones(room, 15, 1, WEEK, 604799, 2);
-    feed_ones(room, 17, 36, WEEK, T, 0);
-    feed_ones(room, 0, 36, WEEK, T, 0);
-    feed_ones(room, 16, 1, WEEK, T, 2);
-    feed_ones(room, 16, 1, WEEK, T, 255);
-    feed_ones(room, 16, 1, WEEK, T, 1);
+fn feed_calls(rt: HostRuntime, room: &mut [u8; ROOM]) {
+    fresh(rt, room, 2, 2, 0);
+    feed_ones(rt, room, 15, 0, WEEK, 604800, 2);
+    feed_ones(rt, room, 15, 37, WEEK, 604800, 2);
+    feed_ones(rt, room, 15, 1, WEEK, 604800, 2);
+    feed_ones(rt, room, 15, 1, WEEK, 604799, 2);
+    feed_ones(rt, room, 17, 36, WEEK, T, 0);
+    feed_ones(rt, room, 0, 36, WEEK, T, 0);
+    feed_ones(rt, room, 16, 1, WEEK, T, 2);
+    feed_ones(rt, room, 16, 1, WEEK, T, 255);
+    feed_ones(rt, room, 16, 1, WEEK, T, 1);
 }
 
 // 15 behind all of them: the current row's subframe is T + 30 s. The same subframe and a later one are taken, at whatever second.
-fn earlier_calls(room: &mut [u8; ROOM]) {
-    fresh(room, 2, 2, 1);
-    feed_ones(room, 16, 1, WEEK, T30, 0);
-    feed_ones(room, 15, 0, WEEK - 1, 604800, 2);
-    feed_ones(room, 15, 1, WEEK - 1, 604800, 2);
-    feed_ones(room, 15, 1, WEEK - 1, 604799, 2);
-    feed_ones(room, 16, 1, WEEK - 1, 604799, 2);
-    feed_ones(room, 16, 1, WEEK - 1, 604799, 1);
-    feed_ones(room, 16, 2, WEEK, T30 - 1, 0);
-    feed_ones(room, 16, 2, WEEK, T, 0);
-    feed_ones(room, 16, 1, 0, 0, 0);
-    feed_ones(room, 16, 2, WEEK, T60 - 1, 0);
-    feed_ones(room, 16, 1, WEEK, T60, 0);
-    feed_ones(room, 16, 1, WEEK, T30, 0);
-    feed_ones(room, 16, 1, WEEK + 1, 0, 0);
-    feed_ones(room, 16, 1, WEEK, 604799, 0);
+fn earlier_calls(rt: HostRuntime, room: &mut [u8; ROOM]) {
+    fresh(rt, room, 2, 2, 1);
+    feed_ones(rt, room, 16, 1, WEEK, T30, 0);
+    feed_ones(rt, room, 15, 0, WEEK - 1, 604800, 2);
+    feed_ones(rt, room, 15, 1, WEEK - 1, 604800, 2);
+    feed_ones(rt, room, 15, 1, WEEK - 1, 604799, 2);
+    feed_ones(rt, room, 16, 1, WEEK - 1, 604799, 2);
+    feed_ones(rt, room, 16, 1, WEEK - 1, 604799, 1);
+    feed_ones(rt, room, 16, 2, WEEK, T30 - 1, 0);
+    feed_ones(rt, room, 16, 2, WEEK, T, 0);
+    feed_ones(rt, room, 16, 1, 0, 0, 0);
+    feed_ones(rt, room, 16, 2, WEEK, T60 - 1, 0);
+    feed_ones(rt, room, 16, 1, WEEK, T60, 0);
+    feed_ones(rt, room, 16, 1, WEEK, T30, 0);
+    feed_ones(rt, room, 16, 1, WEEK + 1, 0, 0);
+    feed_ones(rt, room, 16, 1, WEEK, 604799, 0);
 }
 
 // The words of an orbit and of the timing parameters, each of ones.
-fn all_words(room: &mut [u8; ROOM], svn: u8, week: u16, tow: u32) {
-    word(room, 7, 255, svn, week, tow);
-    word(room, 11, 255, svn, week, tow);
-    word(room, 15, 255, svn, week, tow);
-    word(room, 19, 255, svn, week, tow);
-    word(room, 23, 255, svn, week, tow);
-    word(room, 27, 255, svn, week, tow);
-    word(room, 43, 255, svn, week, tow);
+fn all_words(rt: HostRuntime, room: &mut [u8; ROOM], svn: u8, week: u16, tow: u32) {
+    word(rt, room, 7, 255, svn, week, tow);
+    word(rt, room, 11, 255, svn, week, tow);
+    word(rt, room, 15, 255, svn, week, tow);
+    word(rt, room, 19, 255, svn, week, tow);
+    word(rt, room, 23, 255, svn, week, tow);
+    word(rt, room, 27, 255, svn, week, tow);
+    word(rt, room, 43, 255, svn, week, tow);
 }
 
 // A tag with no data.
 fn tag_of_none(
+    rt: HostRuntime,
     room: &mut [u8; ROOM],
     svn: u8,
     kind: u8,
@@ -454,128 +496,147 @@ fn tag_of_none(
     tow: u32,
 ) {
     let given = [255; 69];
-    tag(room, svn, kind, cop, bits, status, week, tow, &given[0..0]);
+    tag(
+        rt,
+        room,
+        svn,
+        kind,
+        cop,
+        bits,
+        status,
+        week,
+        tow,
+        &given[0..0],
+    );
 }
 
 // 4, 5, 6, 8, 9, 7, 16, 10, each before those that come later.
-fn tag_calls(room: &mut [u8; ROOM]) {
-    fresh(room, 2, 2, 0);
-    all_words(room, 1, WEEK, 175767);
-    tag_of_none(room, 0, 1, 16, 21, 4, 0, 604800);
-    tag_of_none(room, 37, 1, 16, 21, 4, 0, 604800);
-    tag_of_none(room, 1, 1, 16, 21, 4, 0, 604800);
-    tag_of_none(room, 1, 1, 16, 21, 4, 0, 29);
-    tag_of_none(room, 1, 1, 16, 40, 4, 0, 0);
-    tag_of_none(room, 1, 1, 0, 21, 4, 0, 0);
-    tag_of_none(room, 1, 1, 0, 40, 2, 0, 0);
-    tag_of_none(room, 1, 0, 0, 40, 4, 0, 0);
-    tag_of_none(room, 1, 0, 0, 40, 0, 0, 0);
-    tag_of_none(room, 1, 0, 0, 40, 0, WEEK, T60);
-    tag_of_none(room, 1, 0, 1, 40, 0, WEEK, T60);
-    tag_of_none(room, 2, 0, 15, 40, 0, WEEK, T30);
+fn tag_calls(rt: HostRuntime, room: &mut [u8; ROOM]) {
+    fresh(rt, room, 2, 2, 0);
+    all_words(rt, room, 1, WEEK, 175767);
+    tag_of_none(rt, room, 0, 1, 16, 21, 4, 0, 604800);
+    tag_of_none(rt, room, 37, 1, 16, 21, 4, 0, 604800);
+    tag_of_none(rt, room, 1, 1, 16, 21, 4, 0, 604800);
+    tag_of_none(rt, room, 1, 1, 16, 21, 4, 0, 29);
+    tag_of_none(rt, room, 1, 1, 16, 40, 4, 0, 0);
+    tag_of_none(rt, room, 1, 1, 0, 21, 4, 0, 0);
+    tag_of_none(rt, room, 1, 1, 0, 40, 2, 0, 0);
+    tag_of_none(rt, room, 1, 0, 0, 40, 4, 0, 0);
+    tag_of_none(rt, room, 1, 0, 0, 40, 0, 0, 0);
+    tag_of_none(rt, room, 1, 0, 0, 40, 0, WEEK, T60);
+    tag_of_none(rt, room, 1, 0, 1, 40, 0, WEEK, T60);
+    tag_of_none(rt, room, 2, 0, 15, 40, 0, WEEK, T30);
 }
 
 // A CED tag and a timing tag whose data is ones but for the last byte of it.
-fn tag_ced(room: &mut [u8; ROOM], kind: u8, cop: u8, bits: u8, status: u8, last: u8) {
+fn tag_ced(
+    rt: HostRuntime,
+    room: &mut [u8; ROOM],
+    kind: u8,
+    cop: u8,
+    bits: u8,
+    status: u8,
+    last: u8,
+) {
     let mut given = [255; 69];
     given[68] = last;
-    tag(room, 1, kind, cop, bits, status, WEEK, T30, &given);
+    tag(rt, room, 1, kind, cop, bits, status, WEEK, T30, &given);
 }
 
-fn tag_ced_no(room: &mut [u8; ROOM], last: u8) {
+fn tag_ced_no(rt: HostRuntime, room: &mut [u8; ROOM], last: u8) {
     let mut given = [255; 69];
     given[68] = last;
-    tag_no(room, 1, 0, 1, 3, WEEK, T30, &given);
+    tag_no(rt, room, 1, 0, 1, 3, WEEK, T30, &given);
 }
 
-fn tag_timing(room: &mut [u8; ROOM], cop: u8, bits: u8, tow: u32) {
+fn tag_timing(rt: HostRuntime, room: &mut [u8; ROOM], cop: u8, bits: u8, tow: u32) {
     let given = [255; 18];
-    tag(room, 1, 4, cop, bits, 2, WEEK, tow, &given);
+    tag(rt, room, 1, 4, cop, bits, 2, WEEK, tow, &given);
 }
 
 // 11 for a byte less, and for the data of the other family.
-fn tags_other(room: &mut [u8; ROOM]) {
+fn tags_other(rt: HostRuntime, room: &mut [u8; ROOM]) {
     let given = [255; 69];
-    tag(room, 1, 0, 1, 40, 0, WEEK, T30, &given[0..68]);
-    tag(room, 1, 4, 1, 40, 0, WEEK, T30, &given);
+    tag(rt, room, 1, 0, 1, 40, 0, WEEK, T30, &given[0..68]);
+    tag(rt, room, 1, 4, 1, 40, 0, WEEK, T30, &given);
 }
 
 // 17, 18 and 0: bits past the 549 and the 141 of what is given do not matter, the one before them does.
-fn tags_taken(room: &mut [u8; ROOM]) {
-    tag_ced_no(room, 255);
-    tag_ced(room, 0, 1, 40, 0, 255);
-    tag_ced(room, 0, 1, 40, 3, 255);
-    tag_ced(room, 0, 1, 20, 1, 255);
-    ask(room, 1);
-    tag_ced(room, 12, 15, 24, 2, 255);
-    tag_timing(room, 1, 40, T30);
-    tag_ced(room, 0, 1, 28, 2, 248);
-    tag_ced_no(room, 240);
-    word(room, 3, 255, 1, WEEK, T30);
-    tag_timing(room, 1, 32, T60);
-    tag_timing(room, 2, 32, T60);
+fn tags_taken(rt: HostRuntime, room: &mut [u8; ROOM]) {
+    tag_ced_no(rt, room, 255);
+    tag_ced(rt, room, 0, 1, 40, 0, 255);
+    tag_ced(rt, room, 0, 1, 40, 3, 255);
+    tag_ced(rt, room, 0, 1, 20, 1, 255);
+    ask(rt, room, 1);
+    tag_ced(rt, room, 12, 15, 24, 2, 255);
+    tag_timing(rt, room, 1, 40, T30);
+    tag_ced(rt, room, 0, 1, 28, 2, 248);
+    tag_ced_no(rt, room, 240);
+    word(rt, room, 3, 255, 1, WEEK, T30);
+    tag_timing(rt, room, 1, 32, T60);
+    tag_timing(rt, room, 2, 32, T60);
 }
 
 // 4, 5, 6, 8, 9, 7, 16, 10 and 0.
-fn candidate_calls(room: &mut [u8; ROOM]) {
-    candidate(room, 0, 1, 16, 0, 604800);
-    candidate(room, 37, 1, 16, 0, 604800);
-    candidate(room, 1, 1, 16, 0, 604800);
-    candidate(room, 1, 1, 16, 0, 29);
-    candidate(room, 1, 1, 16, 0, 0);
-    candidate(room, 1, 1, 0, 0, 0);
-    candidate(room, 1, 0, 0, 0, 0);
-    candidate(room, 1, 0, 0, WEEK, T60);
-    candidate(room, 1, 0, 1, WEEK, T60);
-    candidate(room, 1, 0, 2, WEEK, T60);
-    candidate(room, 1, 12, 1, WEEK, T30);
-    candidate(room, 1, 4, 1, WEEK, T30);
+fn candidate_calls(rt: HostRuntime, room: &mut [u8; ROOM]) {
+    candidate(rt, room, 0, 1, 16, 0, 604800);
+    candidate(rt, room, 37, 1, 16, 0, 604800);
+    candidate(rt, room, 1, 1, 16, 0, 604800);
+    candidate(rt, room, 1, 1, 16, 0, 29);
+    candidate(rt, room, 1, 1, 16, 0, 0);
+    candidate(rt, room, 1, 1, 0, 0, 0);
+    candidate(rt, room, 1, 0, 0, 0, 0);
+    candidate(rt, room, 1, 0, 0, WEEK, T60);
+    candidate(rt, room, 1, 0, 1, WEEK, T60);
+    candidate(rt, room, 1, 0, 2, WEEK, T60);
+    candidate(rt, room, 1, 12, 1, WEEK, T30);
+    candidate(rt, room, 1, 4, 1, WEEK, T30);
 }
 
 // 4, 12, 7 and 0: for 7 the ring comes back to the first subframe of all, with words that are two subframes old.
-fn ask_calls(room: &mut [u8; ROOM]) {
+fn ask_calls(rt: HostRuntime, room: &mut [u8; ROOM]) {
     let given = [255; 69];
-    ask(room, 0);
-    ask(room, 37);
-    ask(room, 2);
-    ask(room, 1);
-    reset(room);
-    ask(room, 1);
-    fresh(room, 2, 2, 0);
-    all_words(room, 36, 0, 0);
-    tag(room, 36, 0, 1, 40, 2, 0, 30, &given);
-    tag(room, 36, 4, 1, 40, 2, 0, 30, &given[0..18]);
-    ask(room, 36);
-    word(room, 3, 255, 36, 0, 30);
-    ask(room, 36);
-    word(room, 3, 255, 36, 0, 0);
-    ask(room, 36);
+    ask(rt, room, 0);
+    ask(rt, room, 37);
+    ask(rt, room, 2);
+    ask(rt, room, 1);
+    reset(rt, room);
+    ask(rt, room, 1);
+    fresh(rt, room, 2, 2, 0);
+    all_words(rt, room, 36, 0, 0);
+    tag(rt, room, 36, 0, 1, 40, 2, 0, 30, &given);
+    tag(rt, room, 36, 4, 1, 40, 2, 0, 30, &given[0..18]);
+    ask(rt, room, 36);
+    word(rt, room, 3, 255, 36, 0, 30);
+    ask(rt, room, 36);
+    word(rt, room, 3, 255, 36, 0, 0);
+    ask(rt, room, 36);
 }
 
 // 24, behind 4 and 12: of the first subframe of all 254 are gone by, and then one more. A word that comes again makes it 0.
-fn unknown_ages(room: &mut [u8; ROOM]) {
+fn unknown_ages(rt: HostRuntime, room: &mut [u8; ROOM]) {
     let given = [255; 69];
-    fresh(room, 2, 2, 1);
-    all_words(room, 36, 0, 0);
-    tag(room, 36, 0, 1, 40, 2, 0, 30, &given);
-    tag(room, 36, 4, 1, 40, 2, 0, 30, &given[0..18]);
-    word(room, 3, 255, 36, 0, 7620);
-    ask(room, 36);
-    word(room, 3, 255, 36, 0, 7650);
-    ask(room, 36);
-    ask(room, 0);
-    ask(room, 35);
-    word(room, 43, 255, 36, 0, 7650);
-    word(room, 23, 255, 36, 0, 7650);
-    ask(room, 36);
-    word(room, 3, 255, 36, WEEK, T);
-    reset(room);
-    ask(room, 36);
+    fresh(rt, room, 2, 2, 1);
+    all_words(rt, room, 36, 0, 0);
+    tag(rt, room, 36, 0, 1, 40, 2, 0, 30, &given);
+    tag(rt, room, 36, 4, 1, 40, 2, 0, 30, &given[0..18]);
+    word(rt, room, 3, 255, 36, 0, 7620);
+    ask(rt, room, 36);
+    word(rt, room, 3, 255, 36, 0, 7650);
+    ask(rt, room, 36);
+    ask(rt, room, 0);
+    ask(rt, room, 35);
+    word(rt, room, 43, 255, 36, 0, 7650);
+    word(rt, room, 23, 255, 36, 0, 7650);
+    ask(rt, room, 36);
+    word(rt, room, 3, 255, 36, WEEK, T);
+    reset(rt, room);
+    ask(rt, room, 36);
 }
 
 // ---- every value of a number
 // The number of a call that goes through its values; the others are allowed.
-#[derive(Drop)]
+#[derive(Clone, Copy)]
 enum Swept {
     Rows,
     Slots,
@@ -597,127 +658,151 @@ enum Swept {
 }
 
 // A tag of E01 over the ones that its record holds.
-fn one_tag(room: &mut [u8; ROOM], svn: u8, kind: u8, cop: u8, bits: u8, status: u8) {
+fn one_tag(
+    rt: HostRuntime,
+    room: &mut [u8; ROOM],
+    svn: u8,
+    kind: u8,
+    cop: u8,
+    bits: u8,
+    status: u8,
+) {
     let given = [255; 69];
-    tagged(navmessage::tag(
-        room,
-        Svn(svn),
-        kind,
-        cop,
-        bits,
-        status,
-        at(WEEK, T30),
-        &given,
-        true,
-    ));
+    tagged(
+        rt,
+        navmessage::tag(
+            room,
+            Svn(svn),
+            kind,
+            cop,
+            bits,
+            status,
+            at(WEEK, T30),
+            &given,
+            true,
+        ),
+    );
 }
 
-fn one_shown(room: &[u8; ROOM], svn: u8, kind: u8, cop: u8) {
-    reply(navmessage::candidate(room, Svn(svn), kind, cop, at(WEEK, T30)));
+fn one_shown(rt: HostRuntime, room: &[u8; ROOM], svn: u8, kind: u8, cop: u8) {
+    reply(
+        rt,
+        navmessage::candidate(room, Svn(svn), kind, cop, at(WEEK, T30)),
+    );
 }
 
 // The count of the CED record of slot 1, and what asking for it says.
-fn one_count(room: &mut [u8; ROOM], v: u8) {
+fn one_count(rt: HostRuntime, room: &mut [u8; ROOM], v: u8) {
     room[CED_1 + COUNT_AT] = 0;
     room[CED_1 + COUNT_AT + 1] = v;
-    asked(navmessage::get_ced_and_status(room, Svn(1)));
+    asked(rt, navmessage::get_ced_and_status(room, Svn(1)));
 }
 
 // The ages of the CED record of slot 1, and what asking for it says.
-fn one_age(room: &mut [u8; ROOM], v: u8) {
+fn one_age(rt: HostRuntime, room: &mut [u8; ROOM], v: u8) {
     room[CED_1 + AGES_AT] = v;
     room[CED_1 + AGES_AT + 1] = v;
     room[CED_1 + AGES_AT + 2] = v;
     room[CED_1 + AGES_AT + 3] = v;
     room[CED_1 + AGES_AT + 4] = v;
-    asked(navmessage::get_ced_and_status(room, Svn(1)));
+    asked(rt, navmessage::get_ced_and_status(room, Svn(1)));
 }
 
 // A word 6 of E01 in a store that ages by time, a word of type 0 twice v subframes later, and the age that word 6 then has.
-fn one_gone(room: &mut [u8; ROOM], v: u8) {
+fn one_gone(rt: HostRuntime, room: &mut [u8; ROOM], v: u8) {
     let mut word = [255; 16];
     word[0] = 27;
-    reply(navmessage::fresh(room, 1, 1, 1));
-    reply(navmessage::feed(room, &word, Svn(1), at(WEEK, T), 0));
+    reply(rt, navmessage::fresh(room, 1, 1, 1));
+    reply(rt, navmessage::feed(room, &word, Svn(1), at(WEEK, T), 0));
     word[0] = 3;
-    reply(navmessage::feed(room, &word, Svn(1), at(WEEK, T + 60 * (v as u32)), 0));
-    byte(room[TIMING_0 + AGES_AT]);
+    reply(
+        rt,
+        navmessage::feed(room, &word, Svn(1), at(WEEK, T + 60 * (v as u32)), 0),
+    );
+    byte(rt, room[TIMING_0 + AGES_AT]);
 }
 
-fn one(room: &mut [u8; ROOM], swept: Swept, v: u8) {
+fn one(rt: HostRuntime, room: &mut [u8; ROOM], swept: Swept, v: u8) {
     let mut word = [255; 16];
     word[0] = 7;
     match swept {
-        Swept::Rows => reply(navmessage::fresh(room, v, 1, 0)),
-        Swept::Slots => reply(navmessage::fresh(room, 1, v, 0)),
-        Swept::Rule => reply(navmessage::fresh(room, 1, 1, v)),
-        Swept::Band => reply(navmessage::feed(room, &word, Svn(1), at(WEEK, T), v)),
-        Swept::FedSatellite => reply(navmessage::feed(room, &word, Svn(v), at(WEEK, T), 0)),
-        Swept::Kind => one_tag(room, 1, v, 1, 40, 2),
-        Swept::Cop => one_tag(room, 1, 0, v, 40, 2),
-        Swept::Length => one_tag(room, 1, 0, 1, v, 2),
-        Swept::Status => one_tag(room, 1, 0, 1, 40, v),
-        Swept::TagSatellite => one_tag(room, v, 0, 1, 40, 2),
-        Swept::ShownKind => one_shown(room, 1, v, 1),
-        Swept::ShownCop => one_shown(room, 1, 0, v),
-        Swept::ShownSatellite => one_shown(room, v, 0, 1),
-        Swept::AskedSatellite => asked(navmessage::get_ced_and_status(room, Svn(v))),
-        Swept::Count => one_count(room, v),
-        Swept::Age => one_age(room, v),
-        Swept::Gone => one_gone(room, v),
+        Swept::Rows => reply(rt, navmessage::fresh(room, v, 1, 0)),
+        Swept::Slots => reply(rt, navmessage::fresh(room, 1, v, 0)),
+        Swept::Rule => reply(rt, navmessage::fresh(room, 1, 1, v)),
+        Swept::Band => reply(rt, navmessage::feed(room, &word, Svn(1), at(WEEK, T), v)),
+        Swept::FedSatellite => reply(rt, navmessage::feed(room, &word, Svn(v), at(WEEK, T), 0)),
+        Swept::Kind => one_tag(rt, room, 1, v, 1, 40, 2),
+        Swept::Cop => one_tag(rt, room, 1, 0, v, 40, 2),
+        Swept::Length => one_tag(rt, room, 1, 0, 1, v, 2),
+        Swept::Status => one_tag(rt, room, 1, 0, 1, 40, v),
+        Swept::TagSatellite => one_tag(rt, room, v, 0, 1, 40, 2),
+        Swept::ShownKind => one_shown(rt, room, 1, v, 1),
+        Swept::ShownCop => one_shown(rt, room, 1, 0, v),
+        Swept::ShownSatellite => one_shown(rt, room, v, 0, 1),
+        Swept::AskedSatellite => asked(rt, navmessage::get_ced_and_status(room, Svn(v))),
+        Swept::Count => one_count(rt, room, v),
+        Swept::Age => one_age(rt, room, v),
+        Swept::Gone => one_gone(rt, room, v),
     }
 }
 
-fn sweep(room: &mut [u8; ROOM], name: &[u8], swept: Swept) {
-    text(name);
-    text(b":");
+fn sweep(rt: HostRuntime, room: &mut [u8; ROOM], name: &[u8], swept: Swept) {
+    text(rt, name);
+    text(rt, b":");
     let mut v: u16 = 0;
     while v < 256 {
-        one(room, swept, v as u8);
+        one(rt, room, swept, v as u8);
         v += 1;
     }
-    end(room);
+    end(rt, room);
 }
 
 // D 2 and N 2 with all words of E01 in slot 1 of row 0.
-fn begin(room: &mut [u8; ROOM]) {
-    fresh(room, 2, 2, 0);
-    all_words(room, 1, WEEK, T);
+fn begin(rt: HostRuntime, room: &mut [u8; ROOM]) {
+    fresh(rt, room, 2, 2, 0);
+    all_words(rt, room, 1, WEEK, T);
 }
 
-fn every_value(room: &mut [u8; ROOM]) {
-    sweep(room, b"every D", Swept::Rows);
-    sweep(room, b"every N", Swept::Slots);
-    sweep(room, b"every rule", Swept::Rule);
-    begin(room);
-    sweep(room, b"a word of every band", Swept::Band);
-    sweep(room, b"a tag of every kind", Swept::Kind);
-    sweep(room, b"a tag of every COP", Swept::Cop);
-    sweep(room, b"a tag of every length", Swept::Length);
-    sweep(room, b"a tag of every status", Swept::Status);
-    sweep(room, b"a tag of every satellite", Swept::TagSatellite);
+fn every_value(rt: HostRuntime, room: &mut [u8; ROOM]) {
+    sweep(rt, room, b"every D", Swept::Rows);
+    sweep(rt, room, b"every N", Swept::Slots);
+    sweep(rt, room, b"every rule", Swept::Rule);
+    begin(rt, room);
+    sweep(rt, room, b"a word of every band", Swept::Band);
+    sweep(rt, room, b"a tag of every kind", Swept::Kind);
+    sweep(rt, room, b"a tag of every COP", Swept::Cop);
+    sweep(rt, room, b"a tag of every length", Swept::Length);
+    sweep(rt, room, b"a tag of every status", Swept::Status);
+    sweep(rt, room, b"a tag of every satellite", Swept::TagSatellite);
 }
 
-fn every_value_asked(room: &mut [u8; ROOM]) {
-    sweep(room, b"the candidate of every kind", Swept::ShownKind);
-    sweep(room, b"the candidate of every COP", Swept::ShownCop);
+fn every_value_asked(rt: HostRuntime, room: &mut [u8; ROOM]) {
+    sweep(rt, room, b"the candidate of every kind", Swept::ShownKind);
+    sweep(rt, room, b"the candidate of every COP", Swept::ShownCop);
     sweep(
+        rt,
         room,
         b"the candidate of every satellite",
         Swept::ShownSatellite,
     );
-    sweep(room, b"asking for every satellite", Swept::AskedSatellite);
-    sweep(room, b"asking for every count up to 255", Swept::Count);
-    sweep(room, b"a word of every satellite", Swept::FedSatellite);
+    sweep(
+        rt,
+        room,
+        b"asking for every satellite",
+        Swept::AskedSatellite,
+    );
+    sweep(rt, room, b"asking for every count up to 255", Swept::Count);
+    sweep(rt, room, b"a word of every satellite", Swept::FedSatellite);
 }
 
 // Both under the rule by time.
-fn every_age(room: &mut [u8; ROOM]) {
-    fresh(room, 2, 2, 1);
-    all_words(room, 1, WEEK, T);
+fn every_age(rt: HostRuntime, room: &mut [u8; ROOM]) {
+    fresh(rt, room, 2, 2, 1);
+    all_words(rt, room, 1, WEEK, T);
     room[CED_1 + COUNT_AT + 1] = 40;
-    sweep(room, b"asking for every age", Swept::Age);
+    sweep(rt, room, b"asking for every age", Swept::Age);
     sweep(
+        rt,
         room,
         b"an age after every even number of subframes up to 510",
         Swept::Gone,
@@ -741,39 +826,39 @@ fn take_slot_0(room: &mut [u8; ROOM]) {
 }
 
 // E01 in both slots of row 0, with ones and counts of 50 and 51 in slot 1: the first is the candidate, and the first answers.
-fn satellite_twice(room: &mut [u8; ROOM]) {
+fn satellite_twice(rt: HostRuntime, room: &mut [u8; ROOM]) {
     let given = [0; 69];
-    begin(room);
-    text(b"E01 twice in a row\n");
+    begin(rt, room);
+    text(rt, b"E01 twice in a row\n");
     take_slot_0(room);
     room[CED_1 + COUNT_AT + 1] = 50;
     room[TIMING_1 + COUNT_AT + 1] = 51;
-    candidate(room, 1, 0, 1, WEEK, T30);
-    candidate(room, 1, 4, 1, WEEK, T30);
-    ask(room, 1);
-    tag(room, 1, 0, 1, 40, 2, WEEK, T30, &given);
-    tag(room, 1, 4, 1, 40, 2, WEEK, T30, &given[0..18]);
-    ask(room, 1);
+    candidate(rt, room, 1, 0, 1, WEEK, T30);
+    candidate(rt, room, 1, 4, 1, WEEK, T30);
+    ask(rt, room, 1);
+    tag(rt, room, 1, 0, 1, 40, 2, WEEK, T30, &given);
+    tag(rt, room, 1, 4, 1, 40, 2, WEEK, T30, &given[0..18]);
+    ask(rt, room, 1);
 }
 
 // A row's time of 604800, which is no time, and of 604770, the last start of a week.
-fn row_times(room: &mut [u8; ROOM]) {
-    begin(room);
+fn row_times(rt: HostRuntime, room: &mut [u8; ROOM]) {
+    begin(rt, room);
     room[HEADER + TIME_AT] = 0;
     room[HEADER + TIME_AT + 1] = 9;
     room[HEADER + TIME_AT + 2] = 58;
     room[HEADER + TIME_AT + 3] = 128;
-    text(b"a row of 604800:");
-    every(room);
+    text(rt, b"a row of 604800:");
+    every(rt, room);
     room[HEADER + TIME_AT + 3] = 98;
-    text(b"a row of 604770:");
-    every(room);
+    text(rt, b"a row of 604770:");
+    every(rt, room);
 }
 
 // A record without a satellite keeps its ages when one takes it, and so fits a COP of one more than the greatest.
-fn ages_of_none(room: &mut [u8; ROOM]) {
-    fresh(room, 1, 1, 0);
-    text(b"ages where no satellite is\n");
+fn ages_of_none(rt: HostRuntime, room: &mut [u8; ROOM]) {
+    fresh(rt, room, 1, 1, 0);
+    text(rt, b"ages where no satellite is\n");
     room[CED_0 + AGES_AT] = 1;
     room[CED_0 + AGES_AT + 1] = 5;
     room[CED_0 + AGES_AT + 2] = 3;
@@ -781,109 +866,112 @@ fn ages_of_none(room: &mut [u8; ROOM]) {
     room[CED_0 + AGES_AT + 4] = 2;
     room[TIMING_0 + AGES_AT] = 7;
     room[TIMING_0 + AGES_AT + 1] = 6;
-    word(room, 3, 0, 5, WEEK, T);
-    candidate(room, 5, 0, 5, WEEK, T30);
-    candidate(room, 5, 0, 6, WEEK, T30);
-    candidate(room, 5, 4, 7, WEEK, T30);
-    candidate(room, 5, 4, 8, WEEK, T30);
+    word(rt, room, 3, 0, 5, WEEK, T);
+    candidate(rt, room, 5, 0, 5, WEEK, T30);
+    candidate(rt, room, 5, 0, 6, WEEK, T30);
+    candidate(rt, room, 5, 4, 7, WEEK, T30);
+    candidate(rt, room, 5, 4, 8, WEEK, T30);
 }
 
 // A row that is later than the current one: the current row alone says which words are earlier, and a blank one does not.
-fn other_row(room: &mut [u8; ROOM]) {
-    fresh(room, 2, 2, 1);
-    word(room, 3, 0, 5, WEEK, T60);
-    text(b"the other row is the current one\n");
+fn other_row(rt: HostRuntime, room: &mut [u8; ROOM]) {
+    fresh(rt, room, 2, 2, 1);
+    word(rt, room, 3, 0, 5, WEEK, T60);
+    text(rt, b"the other row is the current one\n");
     room[CURRENT_AT] = 1;
-    word(room, 3, 0, 5, WEEK, T);
-    word(room, 3, 0, 6, WEEK, 0);
-    word(room, 3, 0, 6, WEEK, T30);
-    word(room, 3, 0, 6, WEEK, T);
+    word(rt, room, 3, 0, 5, WEEK, T);
+    word(rt, room, 3, 0, 6, WEEK, 0);
+    word(rt, room, 3, 0, 6, WEEK, T30);
+    word(rt, room, 3, 0, 6, WEEK, T);
 }
 
 // 24 before 7 and behind 12, by the least age: in the first subframe of all, and at the other rule 7.
-fn ages_of_one(room: &mut [u8; ROOM]) {
-    fresh(room, 1, 1, 1);
-    word(room, 3, 0, 1, 0, 0);
-    text(b"ages of 255 with a count of 39, of 40, the other rule, and one age of 254\n");
+fn ages_of_one(rt: HostRuntime, room: &mut [u8; ROOM]) {
+    fresh(rt, room, 1, 1, 1);
+    word(rt, room, 3, 0, 1, 0, 0);
+    text(
+        rt,
+        b"ages of 255 with a count of 39, of 40, the other rule, and one age of 254\n",
+    );
     room[CED_0 + COUNT_AT + 1] = 39;
     room[TIMING_0 + COUNT_AT + 1] = 39;
-    ask(room, 1);
+    ask(rt, room, 1);
     room[CED_0 + COUNT_AT + 1] = 40;
     room[TIMING_0 + COUNT_AT + 1] = 40;
-    ask(room, 1);
+    ask(rt, room, 1);
     room[RULE_AT] = 0;
-    ask(room, 1);
+    ask(rt, room, 1);
     room[RULE_AT] = 1;
     room[CED_0 + AGES_AT + 4] = 254;
     room[TIMING_0 + AGES_AT + 1] = 254;
-    ask(room, 1);
+    ask(rt, room, 1);
 }
 
 // ---- the examples of STORE 18 that a program runs
 // A fresh store with both timing words of E01, of zeros.
-fn begin_clock(room: &mut [u8; ROOM], d: u8) {
-    fresh(room, d, 1, 0);
-    word(room, 24, 0, 1, 1, 0);
-    word(room, 40, 0, 1, 1, 0);
+fn begin_clock(rt: HostRuntime, room: &mut [u8; ROOM], d: u8) {
+    fresh(rt, room, d, 1, 0);
+    word(rt, room, 24, 0, 1, 1, 0);
+    word(rt, room, 40, 0, 1, 1, 0);
 }
 
 // A word 6 of E01 whose second byte has one bit: the record's data then starts with 32.
-fn changed_six(room: &mut [u8; ROOM]) {
+fn changed_six(rt: HostRuntime, room: &mut [u8; ROOM]) {
     let mut six = [0; 16];
     six[0] = 24;
     six[1] = 128;
-    feed(room, &six, 1, 1, 0, 0);
+    feed(rt, room, &six, 1, 1, 0, 0);
 }
 
 // 18.14: D 3, subframes A, B, A, and a tag for A.
-fn looked_up(room: &mut [u8; ROOM]) {
+fn looked_up(rt: HostRuntime, room: &mut [u8; ROOM]) {
     let given = [0; 18];
-    text(b"D 3, subframes A, B, A\n");
-    begin_clock(room, 3);
-    word(room, 0, 0, 1, 1, 30);
-    changed_six(room);
-    candidate(room, 1, 4, 15, 1, 30);
-    tag(room, 1, 4, 15, 40, 2, 1, 30, &given);
+    text(rt, b"D 3, subframes A, B, A\n");
+    begin_clock(rt, room, 3);
+    word(rt, room, 0, 0, 1, 1, 30);
+    changed_six(rt, room);
+    candidate(rt, room, 1, 4, 15, 1, 30);
+    tag(rt, room, 1, 4, 15, 40, 2, 1, 30, &given);
 }
 
 // 18.15: the same word again, and one with a bit changed.
-fn same_word(room: &mut [u8; ROOM]) {
+fn same_word(rt: HostRuntime, room: &mut [u8; ROOM]) {
     let mut given = [0; 18];
-    text(b"the same word again, and one with a bit changed\n");
-    begin_clock(room, 1);
-    tag(room, 1, 4, 15, 40, 2, 1, 30, &given);
-    ask(room, 1);
-    word(room, 24, 0, 1, 1, 0);
-    ask(room, 1);
-    changed_six(room);
-    ask(room, 1);
+    text(rt, b"the same word again, and one with a bit changed\n");
+    begin_clock(rt, room, 1);
+    tag(rt, room, 1, 4, 15, 40, 2, 1, 30, &given);
+    ask(rt, room, 1);
+    word(rt, room, 24, 0, 1, 1, 0);
+    ask(rt, room, 1);
+    changed_six(rt, room);
+    ask(rt, room, 1);
     given[0] = 32;
-    tag(room, 1, 4, 15, 40, 2, 1, 30, &given);
-    ask(room, 1);
+    tag(rt, room, 1, 4, 15, 40, 2, 1, 30, &given);
+    ask(rt, room, 1);
 }
 
-fn main() {
+fn main(rt: HostRuntime) {
     let mut room = [7; ROOM];
-    fresh_calls(&mut room);
-    fresh_rules(&mut room);
-    no_store(&mut room);
-    no_records(&mut room);
-    feed_calls(&mut room);
-    earlier_calls(&mut room);
-    tag_calls(&mut room);
-    tags_other(&mut room);
-    tags_taken(&mut room);
-    candidate_calls(&mut room);
-    ask_calls(&mut room);
-    unknown_ages(&mut room);
-    every_value(&mut room);
-    every_value_asked(&mut room);
-    every_age(&mut room);
-    satellite_twice(&mut room);
-    row_times(&mut room);
-    ages_of_none(&mut room);
-    other_row(&mut room);
-    ages_of_one(&mut room);
-    looked_up(&mut room);
-    same_word(&mut room);
+    fresh_calls(rt, &mut room);
+    fresh_rules(rt, &mut room);
+    no_store(rt, &mut room);
+    no_records(rt, &mut room);
+    feed_calls(rt, &mut room);
+    earlier_calls(rt, &mut room);
+    tag_calls(rt, &mut room);
+    tags_other(rt, &mut room);
+    tags_taken(rt, &mut room);
+    candidate_calls(rt, &mut room);
+    ask_calls(rt, &mut room);
+    unknown_ages(rt, &mut room);
+    every_value(rt, &mut room);
+    every_value_asked(rt, &mut room);
+    every_age(rt, &mut room);
+    satellite_twice(rt, &mut room);
+    row_times(rt, &mut room);
+    ages_of_none(rt, &mut room);
+    other_row(rt, &mut room);
+    ages_of_one(rt, &mut room);
+    looked_up(rt, &mut room);
+    same_word(rt, &mut room);
 }

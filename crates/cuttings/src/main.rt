@@ -3,12 +3,14 @@
 // two at every place, as single bytes, and with outputs that are too short again and again, each time with empty parts in between.
 // Two bytes 255 in place of a length begin a trial: a reader's state, how many steps follow in a byte, and the steps. A step is a part or an
 // end, with an output of so many bytes; its number, what was taken, the Adler-32 of the state that it leaves, and its lines are printed.
+#![tactic(auto)]
+
 ghost use Rattle.std.specs.Prelude.{◌+◌, ◌≤◌, length};
 
 use intake::READER;
 use layout::MOST_ROOM;
-use libc::{STDERR_FILENO, STDIN_FILENO, STDOUT_FILENO};
 use lines::LONGEST_LINE;
+use std::io::Read;
 
 // the longest input, and the longest lines of one
 const MOST_INPUT: usize = 4096;
@@ -26,31 +28,36 @@ const LONG: usize = MOST_SAID;
 const SHORT: usize = LONGEST_LINE + 4;
 
 // What a part came to: how many bytes of it were taken, and where its lines end.
-#[derive(Drop)]
+#[derive(Clone, Copy)]
 struct Went {
     took: usize,
     at: usize,
 }
 
 // What a whole input came to: where its lines end, and the Adler-32 of the room.
-#[derive(Drop)]
+#[derive(Clone, Copy)]
 struct Came {
     at: usize,
     sum: u32,
 }
 
 // How an input is cut: its first part, the other parts, and the output that each of them has.
-#[derive(Drop)]
+#[derive(Clone, Copy)]
 struct Way {
     first: usize,
     step: usize,
     most: usize,
 }
 
-fn text(letters: &[u8]) {
-    if !io::write_all(STDOUT_FILENO, letters) {
-        io::write_all(STDERR_FILENO, b"cannot write to standard output\n");
+fn text(rt: HostRuntime, letters: &[u8]) {
+    if rt.write_all(letters).is_err() {
+        let _ = eprintln!(rt; "cannot write to standard output");
     }
+}
+
+// These bytes from standard input: whether they are all there.
+fn filled(rt: HostRuntime, bytes: &mut [u8]) -> bool {
+    rt.stdin().read_exact(bytes).is_ok()
 }
 
 // `step` bytes further, but not past the end.
@@ -237,17 +244,17 @@ fn cuttings(input: &[u8], lines: &[u8], sum: u32) -> usize {
     count
 }
 
-fn said(what: &[u8], holds: bool) {
-    text(what);
+fn said(rt: HostRuntime, what: &[u8], holds: bool) {
+    text(rt, what);
     if holds {
-        text(b": the same lines and room\n");
+        text(rt, b": the same lines and room\n");
         return;
     }
-    text(b": DIFFERS\n");
+    text(rt, b": DIFFERS\n");
 }
 
 // One input: its lines in one piece, and what came of it in parts.
-fn one(input: &[u8]) {
+fn one(rt: HostRuntime, input: &[u8]) {
     let mut got = [0u8; MOST_SAID];
     let whole = Way {
         first: MOST_INPUT,
@@ -257,106 +264,121 @@ fn one(input: &[u8]) {
     let came = read_in(input, whole, &mut got);
     let at = came.at;
     let sum = came.sum;
-    text(&got[..at]);
-    io::print_decimal(STDOUT_FILENO, cuttings(input, &got[..at], sum) as u64);
-    text(b" of ");
-    io::print_decimal(STDOUT_FILENO, input.len() as u64 + 1);
-    text(b" cuttings into two: the same lines and room\n");
+    text(rt, &got[..at]);
+    let alike = cuttings(input, &got[..at], sum);
+    let _ = print!(rt; "{alike}");
+    text(rt, b" of ");
+    let all = input.len() as u64 + 1;
+    let _ = print!(rt; "{all}");
+    text(rt, b" cuttings into two: the same lines and room\n");
     let single = Way {
         first: 1,
         step: 1,
         most: LONG,
     };
-    said(b"single bytes", same(input, single, &got[..at], sum));
+    said(rt, b"single bytes", same(input, single, &got[..at], sum));
     let short = Way {
         first: MOST_INPUT,
         step: MOST_INPUT,
         most: SHORT,
     };
-    said(b"short outputs", same(input, short, &got[..at], sum));
+    said(rt, b"short outputs", same(input, short, &got[..at], sum));
 }
 
 // An input of so many bytes from standard input: whether they are there.
-fn one_of(bytes: &mut [u8], n: usize) -> bool
+fn one_of(rt: HostRuntime, bytes: &mut [u8], n: usize) -> bool
     requires { n ≤ length bytes.old }
 {
-    if io::read_full(STDIN_FILENO, &mut bytes[..n]) < n {
-        io::write_all(STDERR_FILENO, b"cannot read standard input\n");
+    if !filled(rt, &mut bytes[..n]) {
+        let _ = eprintln!(rt; "cannot read standard input");
         return false;
     }
-    one(&bytes[..n]);
+    one(rt, &bytes[..n]);
     true
 }
 
-fn number(value: u64) {
-    text(b" ");
-    io::print_decimal(STDOUT_FILENO, value);
+fn number(rt: HostRuntime, value: u64) {
+    text(rt, b" ");
+    let _ = print!(rt; "{value}");
 }
 
 // A part: its number, how many bytes were taken, the state behind it and its lines.
-fn try_part(reader: &mut [u8; READER], room: &mut [u8], bytes: &[u8], out: &mut [u8]) {
+fn try_part(
+    rt: HostRuntime,
+    reader: &mut [u8; READER],
+    room: &mut [u8],
+    bytes: &[u8],
+    out: &mut [u8],
+) {
     let heard = intake::part(reader, room, bytes, out, false);
     let said = heard.said;
-    text(b"part");
-    number(heard.number as u64);
-    number(heard.took as u64);
-    number(adler::adler32(reader) as u64);
-    text(b"\n");
-    text(&out[..said]);
+    text(rt, b"part");
+    number(rt, heard.number as u64);
+    number(rt, heard.took as u64);
+    number(rt, adler::adler32(reader) as u64);
+    text(rt, b"\n");
+    text(rt, &out[..said]);
 }
 
-fn taken(holds: bool) {
+fn taken(rt: HostRuntime, holds: bool) {
     if holds {
-        text(b" taken");
+        text(rt, b" taken");
         return;
     }
-    text(b" not taken");
+    text(rt, b" not taken");
 }
 
 // An end: its number, whether it was taken, the state behind it and its line.
-fn try_end(reader: &mut [u8; READER], room: &[u8], out: &mut [u8]) {
+fn try_end(rt: HostRuntime, reader: &mut [u8; READER], room: &[u8], out: &mut [u8]) {
     let closed = intake::end(reader, room, out, false);
     let said = closed.said;
-    text(b"end");
-    number(closed.number as u64);
-    taken(closed.taken);
-    number(adler::adler32(reader) as u64);
-    text(b"\n");
-    text(&out[..said]);
+    text(rt, b"end");
+    number(rt, closed.number as u64);
+    taken(rt, closed.taken);
+    number(rt, adler::adler32(reader) as u64);
+    text(rt, b"\n");
+    text(rt, &out[..said]);
 }
 
 // One step: an end or a part, with an output of so many bytes.
-fn step(reader: &mut [u8; READER], room: &mut [u8], ends: u8, most: u8, bytes: &[u8]) {
+fn step(
+    rt: HostRuntime,
+    reader: &mut [u8; READER],
+    room: &mut [u8],
+    ends: u8,
+    most: u8,
+    bytes: &[u8],
+) {
     let mut out = [0u8; MOST_STEP];
     let limit = numbers::as_usize(most);
     if ends != 0 {
-        try_end(reader, room, &mut out[..limit]);
+        try_end(rt, reader, room, &mut out[..limit]);
         return;
     }
-    try_part(reader, room, bytes, &mut out[..limit]);
+    try_part(rt, reader, room, bytes, &mut out[..limit]);
 }
 
 // The next step of standard input: whether there is one.
-fn next_step(reader: &mut [u8; READER], room: &mut [u8]) -> bool {
+fn next_step(rt: HostRuntime, reader: &mut [u8; READER], room: &mut [u8]) -> bool {
     let mut head = [0u8; 3];
     let mut bytes = [0u8; MOST_STEP];
-    if io::read_full(STDIN_FILENO, &mut head) < 3 {
+    if !filled(rt, &mut head) {
         return false;
     }
     let n = numbers::as_usize(head[2]);
-    if io::read_full(STDIN_FILENO, &mut bytes[..n]) < n {
+    if !filled(rt, &mut bytes[..n]) {
         return false;
     }
-    step(reader, room, head[0], head[1], &bytes[..n]);
+    step(rt, reader, room, head[0], head[1], &bytes[..n]);
     true
 }
 
 // So many steps: whether they are there.
-fn steps(reader: &mut [u8; READER], room: &mut [u8], count: u8) -> bool {
+fn steps(rt: HostRuntime, reader: &mut [u8; READER], room: &mut [u8], count: u8) -> bool {
     let mut left = count;
     while left > 0 {
-        if !next_step(reader, room) {
-            io::write_all(STDERR_FILENO, b"cannot read standard input\n");
+        if !next_step(rt, reader, room) {
+            let _ = eprintln!(rt; "cannot read standard input");
             return false;
         }
         left -= 1;
@@ -365,41 +387,41 @@ fn steps(reader: &mut [u8; READER], room: &mut [u8], count: u8) -> bool {
 }
 
 // A trial: whether it is there.
-fn trial() -> bool {
+fn trial(rt: HostRuntime) -> bool {
     let mut reader = [0u8; READER];
     let mut room = [0u8; MOST_ROOM];
     let mut count = [0u8; 1];
-    if io::read_full(STDIN_FILENO, &mut reader) < READER {
+    if !filled(rt, &mut reader) {
         return false;
     }
-    if io::read_full(STDIN_FILENO, &mut count) < 1 {
+    if !filled(rt, &mut count) {
         return false;
     }
-    steps(&mut reader, &mut room, count[0])
+    steps(rt, &mut reader, &mut room, count[0])
 }
 
 // The next input or trial of standard input: whether there is one.
-fn next() -> bool {
+fn next(rt: HostRuntime) -> bool {
     let mut head = [0u8; 2];
     let mut bytes = [0u8; MOST_INPUT];
-    if io::read_full(STDIN_FILENO, &mut head) < 2 {
+    if !filled(rt, &mut head) {
         return false;
     }
     let n = numbers::as_usize(head[0]) * 256 + numbers::as_usize(head[1]);
     if n == TRIAL {
-        return trial();
+        return trial(rt);
     }
     if n > MOST_INPUT {
-        io::write_all(STDERR_FILENO, b"an input is too long\n");
+        let _ = eprintln!(rt; "an input is too long");
         return false;
     }
-    one_of(&mut bytes, n)
+    one_of(rt, &mut bytes, n)
 }
 
-fn main() {
+fn main(rt: HostRuntime) {
     let mut left: u64 = 1000;
     while left > 0 {
-        if !next() {
+        if !next(rt) {
             return;
         }
         left -= 1;

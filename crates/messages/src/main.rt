@@ -7,12 +7,15 @@
 // Room is how many bytes are lent to the call, all a5 before it. Behind 0 stand, of a message read back, the data's satellite, the sender,
 // week, time, counter and status; and last the whole lent buffer in hex. A byte that is no kind byte prints `x 13`, an input that ends inside an
 // item `x 14`; after either the program stops.
+#![tactic(auto)]
+
 ghost use Rattle.std.specs.Prelude.{◌≤◌, length};
 
 use gst::{Gst, Tow, Wn};
-use libc::{STDERR_FILENO, STDIN_FILENO, STDOUT_FILENO};
 use message::{Built, Heading, ReadBack};
 use refusals::PADDING_SET;
+use std::io;
+use std::io::Read;
 use svn::Svn;
 use text::put_hex;
 
@@ -29,34 +32,34 @@ const MOST_BYTES: usize = 255;
 const LENT: u8 = 165;
 
 // A line on standard error where standard output could not be written.
-fn heard(written: bool) {
-    if !written {
-        io::write_all(STDERR_FILENO, b"cannot write to standard output\n");
+fn heard(rt: HostRuntime, written: io::Result<()>) {
+    if written.is_err() {
+        let _ = eprintln!(rt; "cannot write to standard output");
     }
 }
 
-fn text(letters: &[u8]) {
-    heard(io::write_all(STDOUT_FILENO, letters));
+fn text(rt: HostRuntime, letters: &[u8]) {
+    heard(rt, rt.write_all(letters));
 }
 
 // A space and a number.
-fn number(n: u32) {
-    text(b" ");
-    heard(io::print_decimal(STDOUT_FILENO, n as u64));
+fn number(rt: HostRuntime, n: u32) {
+    text(rt, b" ");
+    heard(rt, print!(rt; "{n}"));
 }
 
-fn byte(n: u8) {
-    number(n as u32);
+fn byte(rt: HostRuntime, n: u8) {
+    number(rt, n as u32);
 }
 
 // A space and bytes in hex.
-fn hex(bytes: &[u8])
+fn hex(rt: HostRuntime, bytes: &[u8])
     requires { length bytes.now ≤ 255 }
 {
     let mut digits = [0u8; 2 * MOST_BYTES];
     let end = put_hex(&mut digits, 0, bytes);
-    text(b" ");
-    text(&digits[..end]);
+    text(rt, b" ");
+    text(rt, &digits[..end]);
 }
 
 // Whether every byte of a lent buffer is as before the call.
@@ -72,47 +75,47 @@ fn is_untouched(buffer: &[u8]) -> bool {
 }
 
 // The number of a refusal. It leaves the buffer as it was; if not, it would show.
-fn said_refusal(n: u8, buffer: &[u8]) {
-    byte(n);
+fn said_refusal(rt: HostRuntime, n: u8, buffer: &[u8]) {
+    byte(rt, n);
     if !is_untouched(buffer) {
-        text(b" changed");
+        text(rt, b" changed");
     }
 }
 
 // What building answered.
-fn said_built(answer: Built, buffer: &[u8])
+fn said_built(rt: HostRuntime, answer: Built, buffer: &[u8])
     requires { length buffer.now ≤ 255 }
 {
     match answer {
         Built::Message(_) => {
-            byte(0);
-            hex(buffer);
+            byte(rt, 0);
+            hex(rt, buffer);
         }
-        Built::Refused(why) => said_refusal(refusals::number(why), buffer),
+        Built::Refused(why) => said_refusal(rt, refusals::number(why), buffer),
     }
 }
 
-fn said_heading(h: Heading) {
-    byte(h.prnd.0);
-    byte(h.prna.0);
-    number(h.gst.wn.0 as u32);
-    number(h.gst.tow.0);
-    number(h.counter);
-    byte(h.status);
+fn said_heading(rt: HostRuntime, h: Heading) {
+    byte(rt, h.prnd.0);
+    byte(rt, h.prna.0);
+    number(rt, h.gst.wn.0 as u32);
+    number(rt, h.gst.tow.0);
+    number(rt, h.counter);
+    byte(rt, h.status);
 }
 
 // What reading back answered.
-fn said_read(answer: ReadBack, buffer: &[u8])
+fn said_read(rt: HostRuntime, answer: ReadBack, buffer: &[u8])
     requires { length buffer.now ≤ 255 }
 {
     match answer {
         ReadBack::Message(h) => {
-            byte(0);
-            said_heading(h);
-            hex(buffer);
+            byte(rt, 0);
+            said_heading(rt, h);
+            hex(rt, buffer);
         }
-        ReadBack::PaddingSet => said_refusal(PADDING_SET, buffer),
-        ReadBack::Refused(why) => said_refusal(refusals::number(why), buffer),
+        ReadBack::PaddingSet => said_refusal(rt, PADDING_SET, buffer),
+        ReadBack::Refused(why) => said_refusal(rt, refusals::number(why), buffer),
     }
 }
 
@@ -131,106 +134,111 @@ fn given_heading(fields: &[u8; BUILD_FIELDS]) -> Heading {
 }
 
 // These bytes from standard input: whether they are all there.
-fn filled(bytes: &mut [u8]) -> bool {
-    io::read_full(STDIN_FILENO, bytes) >= bytes.len()
+fn filled(rt: HostRuntime, bytes: &mut [u8]) -> bool {
+    rt.stdin().read_exact(bytes).is_ok()
 }
 
 // The data of an item that builds, and its line: whether the data is there.
-fn build_line(fields: &[u8; BUILD_FIELDS], data: &mut [u8], buffer: &mut [u8]) -> bool
+fn build_line(
+    rt: HostRuntime,
+    fields: &[u8; BUILD_FIELDS],
+    data: &mut [u8],
+    buffer: &mut [u8],
+) -> bool
     requires { length buffer.old ≤ 255 }
 {
-    if !filled(data) {
+    if !filled(rt, data) {
         return false;
     }
     let answer = message::build(buffer, fields[0], given_heading(fields), data);
-    text(b"b");
-    said_built(answer, buffer);
-    text(b"\n");
+    text(rt, b"b");
+    said_built(rt, answer, buffer);
+    text(rt, b"\n");
     true
 }
 
 // The message of an item that reads back, and its line: whether the message is there.
-fn read_line(form: u8, given: &mut [u8], buffer: &mut [u8]) -> bool
+fn read_line(rt: HostRuntime, form: u8, given: &mut [u8], buffer: &mut [u8]) -> bool
     requires { length buffer.old ≤ 255 }
 {
-    if !filled(given) {
+    if !filled(rt, given) {
         return false;
     }
     let answer = message::read(buffer, form, given);
-    text(b"r");
-    said_read(answer, buffer);
-    text(b"\n");
+    text(rt, b"r");
+    said_read(rt, answer, buffer);
+    text(rt, b"\n");
     true
 }
 
 // An item that builds: whether it is whole.
-fn build_one() -> bool {
+fn build_one(rt: HostRuntime) -> bool {
     let mut fields = [0u8; BUILD_FIELDS];
     let mut data = [0u8; MOST_BYTES];
     let mut buffer = [LENT; MOST_BYTES];
-    if !filled(&mut fields) {
+    if !filled(rt, &mut fields) {
         return false;
     }
     let room = numbers::as_usize(fields[14]);
     let n = numbers::as_usize(fields[15]);
-    build_line(&fields, &mut data[..n], &mut buffer[..room])
+    build_line(rt, &fields, &mut data[..n], &mut buffer[..room])
 }
 
 // An item that reads back: whether it is whole.
-fn read_one() -> bool {
+fn read_one(rt: HostRuntime) -> bool {
     let mut fields = [0u8; READ_FIELDS];
     let mut given = [0u8; MOST_BYTES];
     let mut buffer = [LENT; MOST_BYTES];
-    if !filled(&mut fields) {
+    if !filled(rt, &mut fields) {
         return false;
     }
     let room = numbers::as_usize(fields[1]);
     let n = numbers::as_usize(fields[2]);
-    read_line(fields[0], &mut given[..n], &mut buffer[..room])
+    read_line(rt, fields[0], &mut given[..n], &mut buffer[..room])
 }
 
 // Where the input ends: inside an item, or not. Behind the end a read brings nothing, and one that failed fails again.
-fn ended(inside: bool) {
+fn ended(rt: HostRuntime, inside: bool) {
     let mut more = [0u8; 1];
-    if libc::read(STDIN_FILENO, &mut more) < 0 {
-        io::write_all(STDERR_FILENO, b"cannot read standard input\n");
+    if rt.stdin().read(&mut more).is_err() {
+        let _ = eprintln!(rt; "cannot read standard input");
         return;
     }
     if inside {
-        text(b"x 14\n");
+        text(rt, b"x 14\n");
     }
 }
 
 // Whether there may be another item behind one.
-fn goes_on(whole: bool) -> bool {
+fn goes_on(rt: HostRuntime, whole: bool) -> bool {
     if !whole {
-        ended(true);
+        ended(rt, true);
     }
     whole
 }
 
 // The next item of standard input: whether the program goes on.
-fn next() -> bool {
+fn next(rt: HostRuntime) -> bool {
     let mut kind = [0u8; 1];
-    if !filled(&mut kind) {
-        ended(false);
+    if !filled(rt, &mut kind) {
+        ended(rt, false);
         return false;
     }
     match kind[0] {
-        1 => goes_on(build_one()),
-        2 => goes_on(read_one()),
+        1 => goes_on(rt, build_one(rt)),
+        2 => goes_on(rt, read_one(rt)),
         _ => {
-            text(b"x 13\n");
+            text(rt, b"x 13\n");
             false
         }
     }
 }
 
 // A proved loop has to end, and nothing says that an input does: it counts the items down, from a number that no run uses up.
-fn main() {
+fn main(rt: HostRuntime) {
     let mut left = u64::MAX;
     while left > 0 {
-        if !next() {
+        if !next(rt) {
             return;
         }
         left -= 1;

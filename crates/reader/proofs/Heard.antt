@@ -2,18 +2,14 @@
 use native.Mathlib.Omega.{arith}
 use mathlib.Core.Path.{◌≡◌, refl, sym, ap, ◌∙◌}
 use mathlib.Core.Bool.{Bool, false}
-use mathlib.Core.Logic.{⊎_elim}
 use mathlib.Core.List.{List, [], ◌∷◌, ◌++◌}
 use Prim.Native.Nat.{ℕ, ◌+◌, ◌≤◌}
 use lib.ListN.{length, take, drop, replicate, take-append-drop, length-append}
-use types.Run.{OneOf}
-use denote.Enum.Declared.{tag_of}
 use Rattle.intake.specs.Input.{Stage, going, ended, stage_of, items_of, stage_at_end, room_of}
 use Rattle.intake.specs.Reader.{reader_bytes, stage_in, reader_of, stage_number}
 use Rattle.intake.proofs.Along.{stages, items, rooms, stages_ended, items_ended_lem}
 use Rattle.intake.proofs.State.{stage_back}
 use Rattle.intake.proofs.Examples.{zeros}
-use Rattle.reader.specs.contracts.Course.{the_type}
 use Rattle.reader.specs.declared.Course.{Course}
 use Rattle.reader.specs.declared.Course.TheVariants.{More, Over, Finished, Unread, Unwritten}
 use Rattle.reader.specs.Turns.{HeardAll, HeardToEnd, GoesOn, TakenBy, ReadBy, Turned}
@@ -121,12 +117,11 @@ pub turned_least : (n m : ℕ) (reader room reader' room' : List ℕ) → m ≤ 
 turned_least n m reader room reader' room' h p =
     record { bytes = p.bytes; case = (p.case.0, (p.case.1.0, omega (arith, p.case.1.1))) }
 
--- a turn that is not `More`, by its tag
+-- a turn that is not `More`
 pub turned_stop :
-    (course : Course) (n m : ℕ) (reader room reader' room' reader'' room'' : List ℕ) → OneOf (1 ∷ 2 ∷ 3 ∷ 4 ∷ []) (tag_of the_type course)
+    (course : Course) (n m : ℕ) (reader room reader' room' reader'' room'' : List ℕ) → (course ≡ More → ⊥)
     → Turned More n reader room reader' room' → Turned course 1 reader' room' reader'' room'' → Turned course m reader room reader'' room''
-turned_stop More n m reader room reader' room' reader'' room'' h p q =
-    absurd (⊎_elim (λ e. omega arith) (⊎_elim (λ e. omega arith) (⊎_elim (λ e. omega arith) (λ e. omega arith))) h)
+turned_stop More n m reader room reader' room' reader'' room'' h p q = absurd (h refl)
 turned_stop Over n m reader room reader' room' reader'' room'' h p q =
     let t = turned_then Over n 1 reader room reader' room' reader'' room'' p q in
     record { bytes = t.bytes; case = t.case }

@@ -1,5 +1,7 @@
 // The bench program's standard input and output (STORE 17): what is read goes to `intake` part by part, and its lines are written. The
 // programs `bench`, `trace` and `replay` are `run`.
+#![tactic(auto)]
+
 ghost use Rattle.std.specs.Prelude.{◌≡◌, replicate};
 ghost use Rattle.intake.specs.Input.{stage_at_end, bench_room};
 ghost use Rattle.intake.specs.Reader.{reader_bytes, stage_in, reader_of};
@@ -7,8 +9,8 @@ ghost use Rattle.reader.specs.Turns.{GoesOn, TakenBy, ReadBy, Turned, most_turns
 
 use intake::{READER, TRACE};
 use layout::MOST_ROOM;
-use libc::{STDERR_FILENO, STDIN_FILENO, STDOUT_FILENO};
 use lines::LONGEST_LINE;
+use std::io::Read;
 
 // how many bytes are read at once, and room for the lines of many items
 const READ: usize = 4096;
@@ -27,16 +29,22 @@ enum Course {
 }
 
 // Bytes for standard output: whether they could be written. Where they could not, a line on standard error says so.
-fn print(bytes: &[u8]) -> bool {
-    if io::write_all(STDOUT_FILENO, bytes) {
+fn print(rt: HostRuntime, bytes: &[u8]) -> bool {
+    if rt.write_all(bytes).is_ok() {
         return true;
     }
-    io::write_all(STDERR_FILENO, b"cannot write to standard output\n");
+    let _ = eprintln!(rt; "cannot write to standard output");
     false
 }
 
 // What was read: offered until all of it is taken or the input has ended.
-fn take(reader: &mut [u8; READER], room: &mut [u8], bytes: &[u8], traced: bool) -> Course
+fn take(
+    rt: HostRuntime,
+    reader: &mut [u8; READER],
+    room: &mut [u8],
+    bytes: &[u8],
+    traced: bool,
+) -> Course
     requires { GoesOn reader.old }
     ensures { TakenBy result reader.old room.old bytes.now reader.new room.new }
 {
@@ -45,10 +53,11 @@ fn take(reader: &mut [u8; READER], room: &mut [u8], bytes: &[u8], traced: bool) 
     while at < bytes.len() {
         let heard = intake::part(reader, room, &bytes[at..], &mut out, traced);
         let said = heard.said;
-        if !print(&out[..said]) {
+        if !print(rt, &out[..said]) {
             return Course::Unwritten;
         }
-        if heard.number != 0 {
+        let over = heard.number != 0;
+        if over {
             return Course::Over;
         }
         at += heard.took;
@@ -57,18 +66,19 @@ fn take(reader: &mut [u8; READER], room: &mut [u8], bytes: &[u8], traced: bool) 
 }
 
 // The end of standard input: said to the reader, with room for its line.
-fn finish(reader: &mut [u8; READER], room: &[u8], traced: bool)
+fn finish(rt: HostRuntime, reader: &mut [u8; READER], room: &[u8], traced: bool)
     ensures { reader.new ≡ reader_of (stage_at_end (stage_in reader.old)) }
 {
     let mut out = [0u8; PRINTED];
     let closed = intake::end(reader, room, &mut out, traced);
     let said = closed.said;
-    print(&out[..said]);
+    print(rt, &out[..said]);
 }
 
 // What a read of standard input came to: it failed, or it brought these bytes. None is the end of the input, and no part of it; a read that
 // failed stops the program with a line on standard error.
 fn hear(
+    rt: HostRuntime,
     reader: &mut [u8; READER],
     room: &mut [u8],
     failed: bool,
@@ -79,36 +89,37 @@ fn hear(
     ensures { ReadBy result failed reader.old room.old bytes.now reader.new room.new }
 {
     if failed {
-        io::write_all(STDERR_FILENO, b"cannot read standard input\n");
+        let _ = eprintln!(rt; "cannot read standard input");
         return Course::Unread;
     }
     if bytes.len() == 0 {
-        finish(reader, room, traced);
+        finish(rt, reader, room, traced);
         return Course::Finished;
     }
-    take(reader, room, bytes, traced)
+    take(rt, reader, room, bytes, traced)
 }
 
 // One read of standard input.
-fn turn(reader: &mut [u8; READER], room: &mut [u8], traced: bool) -> Course
+fn turn(rt: HostRuntime, reader: &mut [u8; READER], room: &mut [u8], traced: bool) -> Course
     requires { GoesOn reader.old }
     ensures { Turned result 1 reader.old room.old reader.new room.new }
 {
     let mut bytes = [0u8; READ];
-    let got = libc::read(STDIN_FILENO, &mut bytes);
-    let n = io::count(got, &bytes);
-    hear(reader, room, got < 0, &bytes[..n], traced)
+    match rt.stdin().read(&mut bytes) {
+        Ok(n) => hear(rt, reader, room, false, &bytes[..n], traced),
+        Err(_) => hear(rt, reader, room, true, &[], traced),
+    }
 }
 
 // The program on the state and the room that it starts with. A proved loop has to end, and nothing says that an input does: it counts its
 // turns down, from a number that no run uses up.
-fn run_on(reader: &mut [u8; READER], room: &mut [u8], traced: bool) -> Course
+fn run_on(rt: HostRuntime, reader: &mut [u8; READER], room: &mut [u8], traced: bool) -> Course
     requires { (reader.old ≡ replicate reader_bytes 0) × (room.old ≡ replicate bench_room 0) }
     ensures { Turned result most_turns reader.old room.old reader.new room.new }
 {
     let mut turns = u64::MAX;
     while turns > 0 {
-        let came = turn(reader, room, traced);
+        let came = turn(rt, reader, room, traced);
         let Course::More = came else {
             return came;
         };
@@ -119,10 +130,10 @@ fn run_on(reader: &mut [u8; READER], room: &mut [u8], traced: bool) -> Course
 
 // The program: standard input to standard output, on a room for the largest store that is zero at the start.
 // It ends, and hands nothing back: what it is to write is the promise of `intake`, and why it stops that of `run_on`.
-pub fn run(traced: bool)
+pub fn run(rt: HostRuntime, traced: bool)
     ensures { result ≡ tt }
 {
     let mut reader = [0u8; READER];
     let mut room = [0u8; MOST_ROOM];
-    run_on(&mut reader, &mut room, traced);
+    run_on(rt, &mut reader, &mut room, traced);
 }

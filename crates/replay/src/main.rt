@@ -1,4 +1,6 @@
 // The bench program on a recorded input. Its expected output is the Rust's own answers (docs/oracle.md).
-fn main() {
-    reader::run(false);
+#![tactic(auto)]
+
+fn main(rt: HostRuntime) {
+    reader::run(rt, false);
 }

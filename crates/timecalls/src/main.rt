@@ -1,78 +1,81 @@
 // Time calls and conversions of a satellite's number, 13 bytes each from standard input, and an answer a line: the form in which
 // the oracle takes them (tools/oracle, `times-bytes`), so that the two can be compared on any number of calls.
+#![tactic(auto)]
+
 ghost use Rattle.std.specs.Prelude.{◌+◌, ◌≤◌, length};
 
 use gst::{Apart, Gst, NewTime, Start, Tow, Wn};
-use libc::{STDERR_FILENO, STDIN_FILENO, STDOUT_FILENO};
+use std::io;
+use std::io::Read;
 use svn::{Satellite, Svn};
 
 // The bytes of a call: which, week 2, time 4, and a second time or a number in the last four.
 const CALL: usize = 13;
 
 // A line on standard error where standard output could not be written.
-fn heard(written: bool) {
-    if !written {
-        io::write_all(STDERR_FILENO, b"cannot write to standard output\n");
+fn heard(rt: HostRuntime, written: io::Result<()>) {
+    if written.is_err() {
+        let _ = eprintln!(rt; "cannot write to standard output");
     }
 }
 
-fn text(letters: &[u8]) {
-    heard(io::write_all(STDOUT_FILENO, letters));
+fn text(rt: HostRuntime, letters: &[u8]) {
+    heard(rt, rt.write_all(letters));
 }
 
-fn number(n: u64) {
-    heard(io::print_decimal(STDOUT_FILENO, n));
+fn number(rt: HostRuntime, n: u64) {
+    heard(rt, print!(rt; "{n}"));
 }
 
-fn signed(n: i32) {
+fn signed(rt: HostRuntime, n: i32) {
     if n < 0 {
-        text(b"-");
+        text(rt, b"-");
     }
-    number(signs::size(n) as u64);
+    number(rt, signs::size(n) as u64);
 }
 
-fn new_time(answer: NewTime) {
+fn new_time(rt: HostRuntime, answer: NewTime) {
     match answer {
         NewTime::Time(gst) => {
-            text(b"0 ");
-            number(gst.wn.0 as u64);
-            text(b" ");
-            number(gst.tow.0 as u64);
-            text(b"\n");
+            text(rt, b"0 ");
+            number(rt, gst.wn.0 as u64);
+            text(rt, b" ");
+            number(rt, gst.tow.0 as u64);
+            text(rt, b"\n");
         }
-        NewTime::TowTooLarge => text(b"5\n"),
-        NewTime::TimeArithmetic => text(b"7\n"),
+        NewTime::TowTooLarge => text(rt, b"5\n"),
+        NewTime::TimeArithmetic => text(rt, b"7\n"),
     }
 }
 
-fn is_start(answer: Start) {
+fn is_start(rt: HostRuntime, answer: Start) {
     match answer {
-        Start::Yes => text(b"0 1\n"),
-        Start::No => text(b"0 0\n"),
-        Start::TowTooLarge => text(b"5\n"),
+        Start::Yes => text(rt, b"0 1\n"),
+        Start::No => text(rt, b"0 0\n"),
+        Start::TowTooLarge => text(rt, b"5\n"),
     }
 }
 
-fn apart(answer: Apart) {
+fn apart(rt: HostRuntime, answer: Apart) {
     match answer {
         Apart::Subframes(n) => {
-            text(b"0 ");
-            signed(n);
-            text(b"\n");
+            text(rt, b"0 ");
+            signed(rt, n);
+            text(rt, b"\n");
         }
-        Apart::TowTooLarge => text(b"5\n"),
+        Apart::TowTooLarge => text(rt, b"5\n"),
     }
 }
 
-fn satellite(answer: Satellite) {
+fn satellite(rt: HostRuntime, answer: Satellite) {
     match answer {
         Satellite::Of(svn) => {
             let letters = svn.letters();
-            text(b"0 ");
-            text(&letters);
-            text(b"\n");
+            text(rt, b"0 ");
+            text(rt, &letters);
+            text(rt, b"\n");
         }
-        Satellite::NoSatellite => text(b"4\n"),
+        Satellite::NoSatellite => text(rt, b"4\n"),
     }
 }
 
@@ -93,38 +96,43 @@ fn time_at(call: &[u8], at: usize) -> Gst
     }
 }
 
-fn answer(call: &[u8])
+fn answer(rt: HostRuntime, call: &[u8])
     requires { 13 ≤ length call.now }
 {
     let first = time_at(call, 1);
     let n = signs::of_bits(numbers::read32(call, 9));
     match call[0] {
-        1 => new_time(first.add_seconds(n)),
-        2 => new_time(first.add_subframes(n)),
-        3 => apart(first.subframes_difference(time_at(call, 7))),
-        4 => new_time(first.gst_subframe()),
-        5 => is_start(first.is_subframe()),
-        _ => satellite(one_byte(call[1], call[2])),
+        1 => new_time(rt, first.add_seconds(n)),
+        2 => new_time(rt, first.add_subframes(n)),
+        3 => apart(rt, first.subframes_difference(time_at(call, 7))),
+        4 => new_time(rt, first.gst_subframe()),
+        5 => is_start(rt, first.is_subframe()),
+        _ => satellite(rt, one_byte(call[1], call[2])),
     }
 }
 
-fn one_call() -> bool {
-    let mut call = [0u8; 13];
-    if io::read_full(STDIN_FILENO, &mut call) < CALL {
+// These bytes from standard input: whether they are all there.
+fn filled(rt: HostRuntime, bytes: &mut [u8]) -> bool {
+    rt.stdin().read_exact(bytes).is_ok()
+}
+
+fn one_call(rt: HostRuntime) -> bool {
+    let mut call = [0u8; CALL];
+    if !filled(rt, &mut call) {
         // behind the end of the input a read brings nothing, and one that failed fails again
-        if libc::read(STDIN_FILENO, &mut call) < 0 {
-            io::write_all(STDERR_FILENO, b"cannot read standard input\n");
+        if rt.stdin().read(&mut call).is_err() {
+            let _ = eprintln!(rt; "cannot read standard input");
         }
         return false;
     }
-    answer(&call);
+    answer(rt, &call);
     true
 }
 
-fn main() {
+fn main(rt: HostRuntime) {
     let mut left: u64 = 18446744073709551615;
     while left > 0 {
-        if !one_call() {
+        if !one_call(rt) {
             return;
         }
         left -= 1;

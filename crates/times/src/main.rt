@@ -1,7 +1,9 @@
 // The worked examples of the Rust's comments (gst.rs, svn.rs), the time examples of STORE 18 and the edges of i32, a line each.
 // A line says what is asked, and then the answer: its value, or the number of the refusal.
+#![tactic(auto)]
+
 use gst::{Apart, Gst, NewTime, Start, Tow, Wn};
-use libc::{STDERR_FILENO, STDOUT_FILENO};
+use std::io;
 use svn::{Satellite, Svn};
 
 const LEAST: i32 = -2147483648;
@@ -9,56 +11,56 @@ const LEAST: i32 = -2147483648;
 const MOST: i32 = 2147483647;
 
 // A line on standard error where standard output could not be written.
-fn heard(written: bool) {
-    if !written {
-        io::write_all(STDERR_FILENO, b"cannot write to standard output\n");
+fn heard(rt: HostRuntime, written: io::Result<()>) {
+    if written.is_err() {
+        let _ = eprintln!(rt; "cannot write to standard output");
     }
 }
 
-fn text(letters: &[u8]) {
-    heard(io::write_all(STDOUT_FILENO, letters));
+fn text(rt: HostRuntime, letters: &[u8]) {
+    heard(rt, rt.write_all(letters));
 }
 
-fn number(n: u64) {
-    heard(io::print_decimal(STDOUT_FILENO, n));
+fn number(rt: HostRuntime, n: u64) {
+    heard(rt, print!(rt; "{n}"));
 }
 
-fn time(gst: Gst) {
+fn time(rt: HostRuntime, gst: Gst) {
     let week = gst.wn.0;
     let time = gst.tow.0;
-    text(b"(");
-    number(week as u64);
-    text(b", ");
-    number(time as u64);
-    text(b")");
+    text(rt, b"(");
+    number(rt, week as u64);
+    text(rt, b", ");
+    number(rt, time as u64);
+    text(rt, b")");
 }
 
-fn change(n: i32) {
+fn change(rt: HostRuntime, n: i32) {
     if n < 0 {
-        text(b" - ");
+        text(rt, b" - ");
     } else {
-        text(b" + ");
+        text(rt, b" + ");
     }
-    number(signs::size(n) as u64);
+    number(rt, signs::size(n) as u64);
 }
 
-fn signed(n: i32) {
+fn signed(rt: HostRuntime, n: i32) {
     if n < 0 {
-        text(b"-");
+        text(rt, b"-");
     }
-    number(signs::size(n) as u64);
+    number(rt, signs::size(n) as u64);
 }
 
-fn new_time(answer: NewTime) {
+fn new_time(rt: HostRuntime, answer: NewTime) {
     match answer {
         NewTime::Time(gst) => {
-            text(b" = ");
-            time(gst);
+            text(rt, b" = ");
+            time(rt, gst);
         }
-        NewTime::TowTooLarge => text(b": 5"),
-        NewTime::TimeArithmetic => text(b": 7"),
+        NewTime::TowTooLarge => text(rt, b": 5"),
+        NewTime::TimeArithmetic => text(rt, b": 7"),
     }
-    text(b"\n");
+    text(rt, b"\n");
 }
 
 fn at(week: u16, time: u32) -> Gst {
@@ -68,154 +70,155 @@ fn at(week: u16, time: u32) -> Gst {
     }
 }
 
-fn seconds(from: Gst, n: i32) {
-    time(from);
-    change(n);
-    text(b" s");
-    new_time(from.add_seconds(n));
+fn seconds(rt: HostRuntime, from: Gst, n: i32) {
+    time(rt, from);
+    change(rt, n);
+    text(rt, b" s");
+    new_time(rt, from.add_seconds(n));
 }
 
-fn subframes(from: Gst, n: i32) {
-    time(from);
-    change(n);
-    text(b" subframes");
-    new_time(from.add_subframes(n));
+fn subframes(rt: HostRuntime, from: Gst, n: i32) {
+    time(rt, from);
+    change(rt, n);
+    text(rt, b" subframes");
+    new_time(rt, from.add_subframes(n));
 }
 
-fn subframe(of: Gst) {
-    text(b"subframe of ");
-    time(of);
-    new_time(of.gst_subframe());
+fn subframe(rt: HostRuntime, of: Gst) {
+    text(rt, b"subframe of ");
+    time(rt, of);
+    new_time(rt, of.gst_subframe());
 }
 
-fn start(gst: Gst) {
-    text(b"start ");
-    time(gst);
+fn start(rt: HostRuntime, gst: Gst) {
+    text(rt, b"start ");
+    time(rt, gst);
     match gst.is_subframe() {
-        Start::Yes => text(b" yes\n"),
-        Start::No => text(b" no\n"),
-        Start::TowTooLarge => text(b": 5\n"),
+        Start::Yes => text(rt, b" yes\n"),
+        Start::No => text(rt, b" no\n"),
+        Start::TowTooLarge => text(rt, b": 5\n"),
     }
 }
 
-fn difference(gst: Gst, other: Gst) {
-    time(gst);
-    text(b" against ");
-    time(other);
+fn difference(rt: HostRuntime, gst: Gst, other: Gst) {
+    time(rt, gst);
+    text(rt, b" against ");
+    time(rt, other);
     match gst.subframes_difference(other) {
         Apart::Subframes(n) => {
-            text(b": ");
-            signed(n);
-            text(b" subframes\n");
+            text(rt, b": ");
+            signed(rt, n);
+            text(rt, b" subframes\n");
         }
-        Apart::TowTooLarge => text(b": 5\n"),
+        Apart::TowTooLarge => text(rt, b": 5\n"),
     }
 }
 
-fn satellite(n: u8) {
-    text(b"satellite ");
-    number(n as u64);
+fn satellite(rt: HostRuntime, n: u8) {
+    text(rt, b"satellite ");
+    number(rt, n as u64);
     match Svn::try_from(n) {
         Satellite::Of(svn) => {
-            text(b": ");
-            letters(svn);
+            text(rt, b": ");
+            letters(rt, svn);
         }
-        Satellite::NoSatellite => text(b": 4\n"),
+        Satellite::NoSatellite => text(rt, b": 4\n"),
     }
 }
 
-fn letters(svn: Svn) {
+fn letters(rt: HostRuntime, svn: Svn) {
     let letters = svn.letters();
-    text(&letters);
-    text(b"\n");
+    text(rt, &letters);
+    text(rt, b"\n");
 }
 
 // gst.rs and svn.rs, in the order of their comments.
-fn rust() {
+fn rust(rt: HostRuntime) {
     let gst = at(1177, 175767);
-    time(gst);
-    text(b"\n");
-    seconds(gst, 2);
-    text(b"(1177, 175767) + 2 s - 2 s");
-    new_time(gst.add_seconds(2).add_seconds(-2));
-    subframes(gst, 3);
-    text(b"(1177, 175767) + 3 subframes - 3 subframes");
-    new_time(gst.add_subframes(3).add_subframes(-3));
-    subframe(gst);
-    start(gst);
-    start(at(1177, 175740));
-    satellite(24);
+    time(rt, gst);
+    text(rt, b"\n");
+    seconds(rt, gst, 2);
+    text(rt, b"(1177, 175767) + 2 s - 2 s");
+    new_time(rt, gst.add_seconds(2).add_seconds(-2));
+    subframes(rt, gst, 3);
+    text(rt, b"(1177, 175767) + 3 subframes - 3 subframes");
+    new_time(rt, gst.add_subframes(3).add_subframes(-3));
+    subframe(rt, gst);
+    start(rt, gst);
+    start(rt, at(1177, 175740));
+    satellite(rt, 24);
 }
 
 // 18.1 to 18.5.
-fn paper() {
-    seconds(at(1177, 175767), 2);
-    text(b"subframe of (1177, 175767) + 2 s");
-    new_time(at(1177, 175767).add_seconds(2).gst_subframe());
-    seconds(at(0, 0), -30);
-    seconds(at(1, 0), -30);
-    seconds(at(65535, 604799), 1);
-    seconds(at(5, 0), -604799);
-    seconds(at(5, 0), -604800);
-    difference(at(1, 0), at(0, 604799));
+fn paper(rt: HostRuntime) {
+    seconds(rt, at(1177, 175767), 2);
+    text(rt, b"subframe of (1177, 175767) + 2 s");
+    new_time(rt, at(1177, 175767).add_seconds(2).gst_subframe());
+    seconds(rt, at(0, 0), -30);
+    seconds(rt, at(1, 0), -30);
+    seconds(rt, at(65535, 604799), 1);
+    seconds(rt, at(5, 0), -604799);
+    seconds(rt, at(5, 0), -604800);
+    difference(rt, at(1, 0), at(0, 604799));
 }
 
 // The ends of i32, of the weeks and of the times of week.
-fn edges() {
-    seconds(at(0, 0), MOST);
-    seconds(at(61985, 161152), MOST);
-    seconds(at(61985, 161153), MOST);
-    seconds(at(65535, 604799), LEAST);
-    seconds(at(65535, 604800), LEAST);
-    subframes(at(0, 7), 71582788);
-    subframes(at(0, 7), 71582789);
-    subframes(at(65535, 0), -20159);
-    subframes(at(65535, 0), -20160);
-    subframes(at(65535, 0), LEAST);
-    subframes(at(0, 604800), MOST);
-    subframe(at(65535, 604799));
-    subframe(at(0, 604800));
-    start(at(0, 604770));
-    start(at(0, 604800));
+fn edges(rt: HostRuntime) {
+    seconds(rt, at(0, 0), MOST);
+    seconds(rt, at(61985, 161152), MOST);
+    seconds(rt, at(61985, 161153), MOST);
+    seconds(rt, at(65535, 604799), LEAST);
+    seconds(rt, at(65535, 604800), LEAST);
+    subframes(rt, at(0, 7), 71582788);
+    subframes(rt, at(0, 7), 71582789);
+    subframes(rt, at(65535, 0), -20159);
+    subframes(rt, at(65535, 0), -20160);
+    subframes(rt, at(65535, 0), LEAST);
+    subframes(rt, at(0, 604800), MOST);
+    subframe(rt, at(65535, 604799));
+    subframe(rt, at(0, 604800));
+    start(rt, at(0, 604770));
+    start(rt, at(0, 604800));
 }
 
 // The quotient of the times of week is rounded toward zero.
-fn differences() {
-    difference(at(65535, 604799), at(0, 0));
-    difference(at(0, 0), at(65535, 604799));
-    difference(at(7, 0), at(7, 59));
-    difference(at(7, 59), at(7, 0));
-    difference(at(0, 604799), at(1, 0));
-    difference(at(0, 604800), at(0, 0));
-    difference(at(0, 0), at(0, 604800));
+fn differences(rt: HostRuntime) {
+    difference(rt, at(65535, 604799), at(0, 0));
+    difference(rt, at(0, 0), at(65535, 604799));
+    difference(rt, at(7, 0), at(7, 59));
+    difference(rt, at(7, 59), at(7, 0));
+    difference(rt, at(0, 604799), at(1, 0));
+    difference(rt, at(0, 604800), at(0, 0));
+    difference(rt, at(0, 0), at(0, 604800));
 }
 
 // A refusal goes through the chain, and what is no satellite is written by the same rule.
-fn rest() {
-    text(b"subframe of (0, 604800), - 2147483648 s + 1 subframes");
+fn rest(rt: HostRuntime) {
+    text(rt, b"subframe of (0, 604800), - 2147483648 s + 1 subframes");
     new_time(
+        rt,
         at(0, 604800)
             .gst_subframe()
             .add_seconds(LEAST)
             .add_subframes(1),
     );
-    text(b"(0, 0) - 30 s + 30 s");
-    new_time(at(0, 0).add_seconds(-30).add_seconds(30));
-    satellite(0);
-    satellite(1);
-    satellite(36);
-    satellite(37);
-    satellite(255);
-    text(b"0 is written ");
-    letters(Svn(0));
-    text(b"255 is written ");
-    letters(Svn(255));
+    text(rt, b"(0, 0) - 30 s + 30 s");
+    new_time(rt, at(0, 0).add_seconds(-30).add_seconds(30));
+    satellite(rt, 0);
+    satellite(rt, 1);
+    satellite(rt, 36);
+    satellite(rt, 37);
+    satellite(rt, 255);
+    text(rt, b"0 is written ");
+    letters(rt, Svn(0));
+    text(rt, b"255 is written ");
+    letters(rt, Svn(255));
 }
 
-fn main() {
-    rust();
-    paper();
-    edges();
-    differences();
-    rest();
+fn main(rt: HostRuntime) {
+    rust(rt);
+    paper(rt);
+    edges(rt);
+    differences(rt);
+    rest(rt);
 }
