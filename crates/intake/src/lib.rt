@@ -1,5 +1,7 @@
 // An input of the bench taken as it comes, part by part (STORE 17.8): a reader's state and the room are lent, and the lines for the
 // items that a part makes whole go into a lent output. All zero is the state of a reader at the start.
+#![tactic(auto)]
+
 ghost use Rattle.std.specs.Prelude.{◌≡◌, cond, [], ◌+◌, ◌≤◌, ◌<◌, ltb, length, get_or, take};
 ghost use Rattle.text.specs.Text.{Put};
 ghost use Rattle.lines.specs.Kinds.{kind_of, body_length, longest_item};
@@ -63,6 +65,7 @@ struct Progress {
 }
 
 // The line that `trace` adds: the Adler-32 of the whole room.
+#[tactic(auto, unfolding(crate::specs::Input::trace_line))]
 fn put_trace(out: &mut [u8], at: usize, room: &[u8]) -> usize
     requires { at + trace_bytes ≤ length out.old }
     ensures { Put out.old at (trace_line room.now) out.new result }
@@ -83,6 +86,7 @@ fn most(traced: bool) -> usize
 }
 
 // The lines for a whole item.
+#[tactic(auto, unfolding(crate::specs::Input::lines_for))]
 fn put_item(
     room: &mut [u8],
     kind: Kind,
@@ -103,6 +107,7 @@ fn put_item(
 }
 
 // The lines for an input that ends inside an item.
+#[tactic(auto, unfolding(crate::specs::Input::lines_for, paper::specs::Call::run))]
 fn put_cut(room: &[u8], out: &mut [u8], traced: bool) -> usize
     requires { most_for traced ≤ length out.old }
     ensures { Put out.old 0 (lines_for traced cut room.now) out.new result }
@@ -268,6 +273,7 @@ fn keep(reader: &mut [u8], have: usize, end: u8, number: u8)
 
 // A part of an input. It is taken whole, but for an item whose lines might not fit into the output and what stands behind it: the caller
 // goes on from there. Behind the input's end every part is taken, and nothing happens.
+#[tactic(auto, unfolding(crate::specs::Reader::reader_of))]
 pub fn part(
     reader: &mut [u8; READER],
     room: &mut [u8],
@@ -310,6 +316,7 @@ pub fn part(
 }
 
 // The end of the input. Where an item is unfinished it is 14 and prints a line; while that might not fit it is not taken, and 14 too.
+#[tactic(auto, unfolding(crate::specs::Reader::reader_of, crate::specs::Reader::stage_ended, crate::specs::Reader::items_ended, crate::specs::Reader::end_fits, crate::specs::Input::items_at_end, crate::specs::Input::stage_at_end, crate::specs::Input::lines_of))]
 pub fn end(reader: &mut [u8; READER], room: &[u8], out: &mut [u8], traced: bool) -> Closed
     ensures reader_after { reader.new ≡ reader_of (stage_ended traced out.old (stage_in reader.old)) }
     ensures number_value { (result.number ≡ number_at_end (stage_in reader.old))
