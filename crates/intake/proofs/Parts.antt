@@ -74,7 +74,10 @@ module _ (traced : Bool) (s : Stage) (bytes room out : List ℕ) (i : ℕ) (s' :
 
       later : part_taken traced (length out) said room' s' (drop i bytes) ≡ suc (part_taken traced (length out) said'' room'' s'' (drop (i + 1) bytes))
       later =
-          rw (add-one i, drop-cons bytes i 0 h, ← length_kept before.lines, ← t.stops, t.stands, t.leaves, t.lines.place) refl
+          rw (add-one i, drop-cons bytes i 0 h, ← length_kept before.lines, ← t.stops, t.stands, t.leaves, t.lines.place)
+          (ap
+          (λ (n : ℕ). suc (part_taken traced n (said + length (lines_of traced room' (items_with s' b))) (room_of room' (items_with s' b)) (stage_after s' b) (drop (suc i) bytes)))
+          (sym (length_kept before.lines)))
 
   -- the output is full
   pub stops_full :

@@ -13,14 +13,14 @@ pub returns-then-step-clause-took : goal.returns-then-step-clause-took
 returns-then-step-clause-took c =
     let h = c.loop-i in
     let t = c.take_byte-step.ensures in
-    let stop = stops_full _ _ _ _ _ h.i _ _ _ _ h.invariant.1.1 _ _ _ _ c.loop-i-test.true (rw c.if-step.true at t.0) in
+    let stop = stops_full _ _ _ _ _ h.i _ _ _ _ h.invariant.1.1 _ _ _ _ c.loop-i-test.true (rw c.if-step.true at t.stepped) in
     stop.0
 
 pub returns-then-step-2-clause-took : goal.returns-then-step-2-clause-took
 returns-then-step-2-clause-took c =
     let h = c.loop-i in
     let t = c.take_byte-step.ensures in
-    let more = byte_more _ _ _ _ _ h.i _ _ _ _ h.invariant.1.1 _ _ _ _ c.loop-i-test.true (rw c.if-step.false at t.0) in
+    let more = byte_more _ _ _ _ _ h.i _ _ _ _ h.invariant.1.1 _ _ _ _ c.loop-i-test.true (rw c.if-step.false at t.stepped) in
     let stop = stops_ended _ _ _ _ _ (h.i + 1) _ _ _ _ more unknown_kind (rw c.if-step-2.true refl) (omega arith) in
     stop.0
 
@@ -28,7 +28,7 @@ pub returns-then-step-2-clause-stopped_after : goal.returns-then-step-2-clause-s
 returns-then-step-2-clause-stopped_after c =
     let h = c.loop-i in
     let t = c.take_byte-step.ensures in
-    let more = byte_more _ _ _ _ _ h.i _ _ _ _ h.invariant.1.1 _ _ _ _ c.loop-i-test.true (rw c.if-step.false at t.0) in
+    let more = byte_more _ _ _ _ _ h.i _ _ _ _ h.invariant.1.1 _ _ _ _ c.loop-i-test.true (rw c.if-step.false at t.stepped) in
     let stop = stops_ended _ _ _ _ _ (h.i + 1) _ _ _ _ more unknown_kind (rw c.if-step-2.true refl) (omega arith) in
     stop.1
 
@@ -38,9 +38,9 @@ loop-i-preserved c =
     let t = c.take_byte-step.ensures in
     let same = h.invariant.0.1 in
     let kept = c.take_byte-step.auto in
-    let more = byte_more _ _ _ _ _ h.i _ _ _ _ h.invariant.1.1 _ _ _ _ c.loop-i-test.true (rw c.if-step.false at t.0) in (
-      (omega arith, (kept.0 ∙ same.0, kept.1.0 ∙ same.1, kept.1.1.1.1.0 ∙ same.2)),
-      (t.1, rw c.if-step-2.false at more),
+    let more = byte_more _ _ _ _ _ h.i _ _ _ _ h.invariant.1.1 _ _ _ _ c.loop-i-test.true (rw c.if-step.false at t.stepped) in (
+      (omega arith, (kept.room ∙ same.0, kept.kept ∙ same.1, kept.out ∙ same.2)),
+      (t.not_whole, rw c.if-step-2.false at more),
     )
 
 pub returns-clause-took : goal.returns-clause-took
