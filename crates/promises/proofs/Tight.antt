@@ -5,7 +5,7 @@ use denote.Triple.Clauses.{AtExit}
 use contract.Lifetimes.{Lfts}
 use mathlib.Core.Path.{◌≡◌, sym, ◌∙◌}
 use Rattle.refusals.proofs.Answers.{same_reply}
-use Rattle.promises.proofs.Answers.{same-tagged, same_asked}
+use Rattle.promises.proofs.Answers.{same_tagged, same_asked}
 use Rattle.navmessage.proofs.fresh.Reads as fresh
 use Rattle.navmessage.proofs.fresh.Kinds as fresh_kinds
 use Rattle.navmessage.proofs.feed.Reads as feed
@@ -46,7 +46,7 @@ pub tag_determined :
     (e e' : AtExit (ended_of 2 tag_kinds.ps tag_kinds.r) κs)
     → tag.Post κs a r e → tag.Post κs a r' e'
     → (r ≡ r') × (e.0.now ≡ e'.0.now)
-tag_determined κs a r r' e e' p q = (same-tagged r r' (p.0 ∙ sym q.0), p.1 ∙ sym q.1)
+tag_determined κs a r r' e e' p q = (same_tagged r r' (p.0 ∙ sym q.0), p.1 ∙ sym q.1)
 
 pub candidate_determined :
     (κs : Lfts 1) (a : Dens κs candidate_kinds.ps) (r r' : (res_t candidate_kinds.r κs).Denot)
