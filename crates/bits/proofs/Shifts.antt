@@ -2,7 +2,7 @@
 use mathlib.Core.Path.{◌≡◌, ◌∙◌}
 use Prim.Native.Nat.{ℕ, ◌+◌, ◌*◌, ◌/◌, ◌%◌, ◌^◌, ◌<◌, ◌≤◌}
 use native.Mathlib.Omega.{arith}
-use native.Mathlib.Nat.{one-mul, lt_of_lt_of_le, mod-eq_of_lt}
+use native.Mathlib.Nat.{one-mul, lt_of_lt_of_le}
 use lib.Dec.{lit<}
 use lib.Pow.{shl_exact, shr_le, pow_mono, pow_pos}
 use Rattle.paper.specs.Bits.{spliced}

@@ -8,7 +8,6 @@ use native.Mathlib.Nat.{div-add-mod'}
 use native.Mathlib.Omega.{arith}
 use Rattle.paper.specs.Big.{put16}
 use Rattle.paper.specs.Record.{count, most_count, Timing, count_at}
-use Rattle.paper.specs.Word.{table as words}
 use Rattle.paper.specs.Call.{Call, tag_call, room_after, run}
 use Rattle.paper.proofs.Opens.{calls_open}
 use Rattle.history.specs.Line.{at, Tag, fills, resets, same, broken, begins, counted, tags, tags_along, total}

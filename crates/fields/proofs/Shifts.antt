@@ -16,7 +16,7 @@ use mir.Val.{to_z, of_z}
 use mir.Facts.{to_z-of_z}
 use Rattle.paper.specs.Parts.{Bytes}
 use Rattle.paper.specs.Field.{signed, value_of, bits_at}
-use Rattle.paper.proofs.Fields.{bits_inside, bits_small, bits_byte, bits_bytes}
+use Rattle.paper.proofs.Fields.{bits_inside, bits_byte, bits_bytes}
 
 -- 1 << k
 pub one_shl_64 : (k : ℕ) → k ≤ 32 → (1 * 2 ^ k) % 18446744073709551616 ≡ 2 ^ k

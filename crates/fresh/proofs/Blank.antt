@@ -1,7 +1,7 @@
 -- What blanking leaves, in the words of "Fresh room": a record after its bytes and then its ages are filled, a slot after its two
 -- records, and the header. Assumes nothing.
 use native.Mathlib.Omega.{arith}
-use mathlib.Core.Path.{◌≡◌, refl, sym, ap, ◌∙◌}
+use mathlib.Core.Path.{◌≡◌, ap, ◌∙◌}
 use mathlib.Core.List.{List, [], ◌++◌, append-nil}
 use Prim.Native.Nat.{ℕ, ◌+◌, ◌-◌, ◌≤◌}
 use lib.ListN.{length, take, drop, set, replicate, length-drop, length-replicate, drop_of_length-le}

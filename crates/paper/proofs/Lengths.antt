@@ -1,12 +1,12 @@
 -- Which changes keep the length of a record and of a row. Assumes nothing.
 use mathlib.Core.Bool.{Bool, true, false, cond, ◌||◌}
-use mathlib.Core.List.{List, ◌∷◌, ◌++◌, map}
+use mathlib.Core.List.{List, map}
 use mathlib.Core.Path.{◌≡◌, refl, ◌∙◌}
 use Prim.Native.Nat.{ℕ, zero, suc, ◌+◌, ◌<◌, ◌≤◌, min}
 use native.Mathlib.Omega.{arith}
 use native.Mathlib.Decide.{dec_lt}
 use lib.Dec.{eqb, leb}
-use lib.ListN.{length, drop, set, replicate, length-set, length-append, length-replicate, length-drop, length-map}
+use lib.ListN.{length, set, replicate, length-set, length-append, length-replicate, length-map}
 use Rattle.paper.specs.Big.{put16}
 use Rattle.paper.specs.Bits.{moved, changed}
 use Rattle.paper.specs.Parts.{on_part}

@@ -1,7 +1,7 @@
 -- STORE 3.5, 3.6 and 10.3 in seconds since week 0, by addition: a sum of a time and a span is so many seconds later, and of two starts the
 -- one that is not earlier is as many times 30 seconds later as subframes have gone by. Assumes nothing.
 use native.Mathlib.Omega.{arith}
-use mathlib.Core.Bool.{Bool, true, false, not, cond, ◌&&◌}
+use mathlib.Core.Bool.{Bool, true, false, not, cond}
 use mathlib.Core.List.{[], ◌∷◌}
 use mathlib.Core.Path.{◌≡◌, refl, sym, subst}
 use Prim.Native.Nat.{ℕ, zero, suc, ◌+◌, ◌-◌, ◌*◌, ◌/◌, ◌%◌, ◌<◌}

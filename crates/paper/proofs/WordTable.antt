@@ -2,13 +2,13 @@
 -- family cover its record. So what a word owns lies in bounds. Assumes nothing.
 use mathlib.Core.Bool.{Bool, true, false, cond, ◌&&◌, ◌||◌, not, false≢true}
 use mathlib.Core.List.{List, [], ◌∷◌}
-use mathlib.Core.Path.{◌≡◌, refl, sym}
-use Prim.Native.Nat.{ℕ, ◌+◌, ◌-◌, ◌<◌, ◌≤◌}
+use mathlib.Core.Path.{◌≡◌, refl}
+use Prim.Native.Nat.{ℕ, ◌+◌, ◌-◌}
 use native.Mathlib.Omega.{arith}
 use lib.Dec.{eqb, leb, ltb}
 use borrow.Author.Tests.{ltb-true, leb-true, eqb-true}
 use Rattle.paper.specs.Record.{Family, CED, Timing, same_family, record_bits, ages}
-use Rattle.paper.specs.Word.{Line, table, agrees, all_agree, covers, Owned, nothing, owns, InBounds, owned_in, owned, word_bits}
+use Rattle.paper.specs.Word.{Line, table, agrees, all_agree, covers, Owned, owns, InBounds, owned_in, owned, word_bits}
 use Rattle.paper.proofs.StoreFacts.{both_true}
 
 pub table_agrees : all_agree table ≡ true

@@ -1,5 +1,5 @@
 -- STORE 14, call by call: the number in its order, the answer, the slice of the room, and the room afterwards.
-use Rattle.std.specs.Prelude.{ℕ, Bool, cond, not, ◌&&◌, List, [], ◌∷◌, get_or, length, leb, eqb}
+use Rattle.std.specs.Prelude.{ℕ, Bool, cond, not, ◌&&◌, List, [], ◌∷◌, length, leb, eqb}
 use Rattle.paper.specs.Number.{Answer, number, values, answer, unless}
 use Rattle.paper.specs.Time.{is_time, is_start, start_of}
 use Rattle.paper.specs.Satellite.{is_satellite}

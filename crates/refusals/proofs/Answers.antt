@@ -5,8 +5,8 @@ use mathlib.Core.List.{List, []}
 use mathlib.Core.Bool.{cond}
 use mathlib.Core.Logic.{◌≢◌}
 use lib.Dec.{eqb, eqb-suc-zero}
-use Prim.Native.Nat.{ℕ, zero, suc, ◌+◌, ◌≤◌}
-use Rattle.paper.specs.Number.{Answer, done, refused, number, values, answer}
+use Prim.Native.Nat.{ℕ, zero, suc, ◌≤◌}
+use Rattle.paper.specs.Number.{done, refused, answer}
 use Rattle.paper.specs.Answer.{room_for, part_for}
 use Rattle.refusals.specs.Reply.{refusal_number, reply_answer}
 use Rattle.refusals.specs.declared.Refusal.{Refusal}

@@ -1,9 +1,9 @@
 -- A row of the table of examples: what the definitions give, and what STORE 18 says comes out.
-use Rattle.std.specs.Prelude.{ℕ, zero, suc, ◌+◌, ◌*◌, ◌≡◌, Bool, true, ◌&&◌, List, [], ◌∷◌, ◌++◌, replicate, ℤ, pos, negsuc}
+use Rattle.std.specs.Prelude.{ℕ, zero, suc, ◌*◌, ◌≡◌, Bool, true, ◌&&◌, List, [], ◌∷◌, ◌++◌, replicate, pos, negsuc}
 use Rattle.paper.specs.Number.{Answer, done, refused}
 use Rattle.paper.specs.Time.{Difference, subframes, no_difference}
-use Rattle.paper.specs.Record.{Family, same_list, satellite, count, ages_of, data_of}
-use Rattle.paper.specs.Room.{slots, row_of, record_of}
+use Rattle.paper.specs.Record.{Family, same_list, satellite}
+use Rattle.paper.specs.Room.{row_of, record_of}
 use Rattle.paper.specs.Call.{Call, answer_to, run}
 
 pub record Example : Type 0 where

@@ -1,10 +1,10 @@
 -- STORE 18, the examples with a star, and the near misses of STORE 16.6, as rows of one table.
-use Rattle.std.specs.Prelude.{ℕ, ◌+◌, ◌*◌, Bool, true, false, List, [], ◌∷◌, ◌++◌, replicate, take, set, ℤ, pos, negsuc}
+use Rattle.std.specs.Prelude.{ℕ, ◌+◌, ◌*◌, true, List, [], ◌∷◌, ◌++◌, replicate, take, set, pos, negsuc}
 use Rattle.paper.specs.Parts.{on_part}
 use Rattle.paper.specs.Time.{add_seconds, subframe_of, difference, gone_by}
-use Rattle.paper.specs.Record.{Family, CED, Timing, size, satellite, count, ages_of, data_of, with_count}
+use Rattle.paper.specs.Record.{CED, Timing, size, count, ages_of, data_of, with_count}
 use Rattle.paper.specs.Room.{rule_at, time_rule, row_at, record_at}
-use Rattle.paper.specs.Call.{Call, fresh_call, feed_call, tag_call, candidate_call, ask_call, reset_call, room_after, answer_to, part_to}
+use Rattle.paper.specs.Call.{Call, fresh_call, feed_call, tag_call, ask_call, room_after, answer_to}
 use Rattle.starred.specs.Row.{Example, example, flat, flat_difference, last_answer, after, record_in, satellites, word}
 
 -- a word at week 1177

@@ -6,7 +6,7 @@ use Prim.Native.Nat.{ℕ, zero, suc, ◌+◌, ◌*◌, ◌<◌, min, ◌-◌}
 use native.Mathlib.Omega.{arith}
 use lib.Dec.{ltb}
 use borrow.Author.Tests.{ltb-true, leb-true}
-use lib.ListN.{drop, set, replicate}
+use lib.ListN.{set, replicate}
 use Rattle.paper.specs.Big.{put16}
 use Rattle.paper.specs.Bits.{moved, changed}
 use Rattle.paper.specs.Parts.{part, on_part, Bytes}
@@ -23,7 +23,7 @@ use Rattle.paper.specs.Answer.{fresh_number, fresh_room, feed_number, feed_room,
 use Rattle.paper.specs.Call.{Call, fresh_call, feed_call, tag_call, candidate_call, ask_call, reset_call, room_after, run}
 use Rattle.paper.specs.Time.{start_of, week_seconds}
 use Rattle.paper.proofs.Big.{bytes_put16, bytes_put32}
-use Rattle.paper.proofs.Bytes.{bytes_cons, bytes_set, bytes_drop, bytes_part, bytes_append, bytes_replicate, bytes_on_part, bytes_on_parts}
+use Rattle.paper.proofs.Bytes.{bytes_cons, bytes_set, bytes_part, bytes_append, bytes_replicate, bytes_on_part, bytes_on_parts}
 use Rattle.paper.proofs.Bits.{bytes_moved}
 use Rattle.paper.proofs.RecordViews.{held_or_free}
 use Rattle.paper.proofs.StoreFacts.{sizes_facts}

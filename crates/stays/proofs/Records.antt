@@ -3,12 +3,12 @@ use mathlib.Core.Bool.{Bool, true, false, cond}
 use mathlib.Core.List.{List}
 use mathlib.Core.Logic.{◌≢◌}
 use mathlib.Core.Path.{◌≡◌, refl, sym, ap, ◌∙◌}
-use Prim.Native.Nat.{ℕ, ◌*◌, ◌-◌, ◌%◌, ◌≤◌}
+use Prim.Native.Nat.{ℕ, ◌-◌, ◌%◌, ◌≤◌}
 use native.Mathlib.Omega.{arith}
 use borrow.Author.Tests.{ne_eqb}
 use lib.ListN.{length, get_or, replicate}
 use Rattle.paper.specs.Bits.{moved, changed}
-use Rattle.paper.specs.Record.{last_weight, Family, CED, Timing, data_bytes, size, data_at, satellite, count, data_of, with_count, aged, blank_record, record_bits}
+use Rattle.paper.specs.Record.{last_weight, Family, CED, Timing, data_bytes, size, data_at, satellite, count, data_of, with_count, aged, blank_record}
 use Rattle.paper.specs.Word.{Owned, nothing, owns, owned, type_of, takeover, written, fed_record, InBounds}
 use Rattle.paper.specs.Tag.{matches, credited}
 use Rattle.paper.proofs.Bits.{last_kept}

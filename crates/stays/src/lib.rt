@@ -1,1 +1,2 @@
 // A store stays a store: theorems over the definitions of docs/STORE.md, in proofs/; there is no code here.
+#![tactic(auto)]

@@ -1,7 +1,7 @@
 -- `adler32`: the sums of all bytes are the sums so far, carried on over the rest.
 use native.Mathlib.Omega.{arith}
 use mathlib.Core.Path.{sym, ap, ◌∙◌}
-use Prim.Native.Nat.{ℕ, ◌+◌, ◌-◌, ◌%◌}
+use Prim.Native.Nat.{ℕ, ◌+◌, ◌%◌}
 use Rattle.adler.specs.Adler.{adler_prime}
 use Rattle.adler.proofs.Sums.{sum_turn, adler_done}
 use Rattle.adler.proofs.adler32.Goals as goal

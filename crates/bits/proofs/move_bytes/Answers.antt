@@ -1,6 +1,6 @@
 -- `move_bytes` is right: after n turns the list and the flag are those of a move of 8 n bits, since moves add up.
 use mathlib.Core.Path.{◌∙◌}
-use Prim.Native.Nat.{◌+◌, ◌-◌, ◌*◌, ◌/◌, ◌%◌}
+use Prim.Native.Nat.{◌+◌, ◌*◌, ◌/◌, ◌%◌}
 use native.Mathlib.Omega.{arith}
 use Rattle.paper.proofs.Bits.{move_on}
 use Rattle.bits.proofs.move_bytes.Goals as goal

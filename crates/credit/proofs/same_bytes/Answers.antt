@@ -1,5 +1,4 @@
 -- `same_bytes` compares byte by byte: what is left to compare from i on decides the whole, and a byte that differs ends it.
-use Prim.Native.Nat.{◌-◌}
 use native.Mathlib.Omega.{arith}
 use Rattle.credit.proofs.Same.{bytes_differ, bytes_go, bytes_done}
 use Rattle.credit.proofs.same_bytes.Goals as goal

@@ -1,5 +1,4 @@
 -- `same_first` compares four bytes as one number: equal numbers are equal bytes, and bytes that are all equal make equal numbers.
-use Prim.Native.Nat.{◌-◌}
 use mathlib.Core.Path.{sym, ◌∙◌}
 use native.Mathlib.Omega.{arith}
 use Rattle.credit.proofs.Same.{words_differ, words_go}

@@ -1,5 +1,4 @@
 -- The loop holds where row number `row` starts, and that the first row of all is the first from here on.
-use Prim.Native.Nat.{◌-◌}
 use mathlib.Core.Path.{◌≡◌, refl, sym, ap, ◌∙◌}
 use mathlib.Core.Bool.{◌&&◌}
 use native.Mathlib.Omega.{arith}

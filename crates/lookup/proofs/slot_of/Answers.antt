@@ -1,5 +1,4 @@
 -- The loop holds that the first slot of all is the first from here on; a record's satellite is its first byte.
-use Prim.Native.Nat.{◌-◌}
 use mathlib.Core.Path.{sym, ◌∙◌}
 use native.Mathlib.Omega.{arith}
 use borrow.Author.Tests.{eq-eqb, ne_eqb}

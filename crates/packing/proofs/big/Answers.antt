@@ -1,5 +1,4 @@
 -- `big` is right: after i turns the number is that of the first i bytes.
-use Prim.Native.Nat.{◌-◌}
 use native.Mathlib.Omega.{arith}
 use Rattle.packing.proofs.Written.{bytes_so_far, next_byte}
 use Rattle.packing.proofs.big.Goals as goal

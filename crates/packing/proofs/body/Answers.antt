@@ -1,6 +1,6 @@
 -- `body` is right: the last byte made 0, and one move.
 use mathlib.Core.Path.{◌∙◌}
-use Prim.Native.Nat.{◌+◌, ◌-◌, ◌*◌}
+use Prim.Native.Nat.{◌+◌, ◌*◌}
 use native.Mathlib.Omega.{arith}
 use Rattle.packing.proofs.Written.{data_written}
 use Rattle.packing.proofs.body.Goals as goal

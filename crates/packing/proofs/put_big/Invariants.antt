@@ -1,6 +1,6 @@
 -- `put_big` is right: what is left to be written, written, is the whole.
 use mathlib.Core.Path.{◌≡◌}
-use Prim.Native.Nat.{◌-◌, ◌≤◌}
+use Prim.Native.Nat.{◌≤◌}
 use lib.ListN.{length}
 use Rattle.packing.specs.Big.{put_big}
 use Rattle.packing.proofs.put_big.Given as goal

@@ -1,6 +1,6 @@
 -- `write` is right: the head in whole bytes, the last byte made 0, and one move.
 use mathlib.Core.Path.{◌∙◌}
-use Prim.Native.Nat.{◌+◌, ◌-◌, ◌*◌}
+use Prim.Native.Nat.{◌+◌, ◌*◌}
 use native.Mathlib.Omega.{arith}
 use lib.Pow.{pow_mono}
 use Rattle.packing.proofs.Written.{row_written}

@@ -1,5 +1,5 @@
 -- `records::all_older` meets its contract. The loop's invariant: what was passed is older, and what is left is still to be.
-use Prim.Native.Nat.{◌+◌, ◌-◌, ◌≤◌}
+use Prim.Native.Nat.{◌-◌, ◌≤◌}
 use mathlib.Core.Path.{◌≡◌}
 use mathlib.Core.List.{map, ◌++◌}
 use lib.ListN.{length, take, drop}

@@ -1,6 +1,5 @@
 -- `records::greatest_of` meets its contract. The loop's invariant: the greatest of all is that of those passed and of those left.
 use native.Mathlib.Omega.{arith}
-use Prim.Native.Nat.{◌-◌}
 use Rattle.records.proofs.Ages.{greatest_turn, greatest_done}
 use Rattle.records.proofs.greatest_of.Goals as goal
 

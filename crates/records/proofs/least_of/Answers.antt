@@ -1,6 +1,5 @@
 -- `records::least_of` meets its contract. The loop's invariant: the least of all is that of those passed and of those left.
 use native.Mathlib.Omega.{arith}
-use Prim.Native.Nat.{◌-◌}
 use Rattle.records.proofs.Ages.{least_start, least_turn, least_done}
 use Rattle.records.proofs.least_of.Goals as goal
 

@@ -1,7 +1,7 @@
 -- `put_bytes`: the text put whole is what is written so far with the rest of the text put behind it.
 use native.Mathlib.Omega.{arith}
 use mathlib.Core.Path.{sym, ◌∙◌}
-use Prim.Native.Nat.{◌+◌, ◌-◌}
+use Prim.Native.Nat.{◌+◌}
 use lib.ListN.{length-set}
 use Rattle.text.proofs.Puts.{put_text_turn, put_text_done}
 use Rattle.text.proofs.put_bytes.Goals as goal

@@ -1,7 +1,6 @@
 -- `put_hex`: the digits put whole are what is written so far with the digits of the other bytes put behind it.
 use native.Mathlib.Omega.{arith}
 use mathlib.Core.Path.{sym, ◌∙◌}
-use Prim.Native.Nat.{◌-◌}
 use lib.ListN.{length-set}
 use Rattle.text.proofs.Hex.{length_hex_of, hex_of_turn, hex_of_done}
 use Rattle.text.proofs.put_hex.Goals as goal
