@@ -12,6 +12,6 @@ pub returns : goal.returns
 returns c =
     held_last _ _
     (elim c.if-not-known.branch [
-      then-not-known+else-holds-ne0 w ↦ held_none _ _ (sym w.holds.ensures ∙ w.if-holds-ne0.false)
+      | then-not-known+else-holds-ne0 w ↦ held_none _ _ (sym w.holds.ensures ∙ w.if-holds-ne0.false)
       | else-not-known w ↦ held_known _ _ (sym c.known.ensures ∙ w.if-not-known.false)
     ])
