@@ -96,7 +96,7 @@ def structs_like_rust(text):
 
 def exports_of(crate):
     """Name to parameters, result and clauses, as the crate has them."""
-    pattern = r"#\[unsafe\(no_mangle\)\]\s*pub extern \"C\" fn (\w+)\((.*?)\)\s*(?:->\s*(?:\w+::)?(\w+))?(.*?)^\{"
+    pattern = r"#\[unsafe\(no_mangle\)\]\s*(?:#\[tactic\(.*?\)\]\s*)?pub extern \"C\" fn (\w+)\((.*?)\)\s*(?:->\s*(?:\w+::)?(\w+))?(.*?)^\{"
     return {name: (parameters, result, clauses.split()) for name, parameters, result, clauses in re.findall(pattern, code_of(crate), re.S | re.M)}
 
 
