@@ -5,9 +5,9 @@ usage: tools/respell.py [--check]     at the top of the repository, once, over t
 
 A name that specs/ or a lemma file of proofs/ declares in camel case with a small first letter, or with dashes, gets underscores:
 'freshNumber' becomes 'fresh_number', 'bytes-append' 'bytes_append'. So do the names that a function's proof declares for itself, but those of
-its goals, which the toolchain makes. A name stays where the new spelling is declared already, or stands in a file that has the old one: such
-names are listed. Functions of src/, strings, inputs and outputs are not touched; of a must-fail edit the lines 'in:', 'old:' and 'new:' are.
-tools/respelled.tsv gets the table, for pages and for texts of before.
+its goals, which the toolchain makes. A lemma that would then have its definition's name ends in '_lem'; names that fall together are listed.
+Functions of src/, strings, inputs and outputs are not touched; of a must-fail edit the lines 'in:', 'old:' and 'new:' are.
+tools/respelled.tsv gets the table, for pages and for texts of before; as it is kept it also has the names that the toolchain's port respelled.
 """
 import collections
 import os

@@ -32,7 +32,7 @@ enum Answering {
 }
 
 // What asking came to: where the record that answers starts in the room, its count and the time; or why there is none.
-#[derive(Drop)]
+#[derive(Clone, Copy)]
 pub enum Answered {
     Record(usize, u16, Gst),
     Refused(Refusal),

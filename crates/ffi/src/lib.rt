@@ -28,7 +28,7 @@ use tags::{Candidate, Tagged};
 
 // What a tag came to: its number, and how many records took it.
 #[repr(C)]
-#[derive(Drop)]
+#[derive(Clone, Copy)]
 pub struct Taken {
     pub number: u8,
     pub records: u32,
@@ -36,7 +36,7 @@ pub struct Taken {
 
 // The candidate of a tag: its number, and where its data lies in the room.
 #[repr(C)]
-#[derive(Drop)]
+#[derive(Clone, Copy)]
 pub struct Shown {
     pub number: u8,
     pub offset: usize,
@@ -45,7 +45,7 @@ pub struct Shown {
 
 // What asking tells: its number, the count, the time, and where the data lies in the room.
 #[repr(C)]
-#[derive(Drop)]
+#[derive(Clone, Copy)]
 pub struct Told {
     pub number: u8,
     pub authbits: u16,
@@ -57,7 +57,7 @@ pub struct Told {
 
 // A new time: its number, the week and the time of week.
 #[repr(C)]
-#[derive(Drop)]
+#[derive(Clone, Copy)]
 pub struct Moment {
     pub number: u8,
     pub week: u16,
@@ -66,7 +66,7 @@ pub struct Moment {
 
 // Whether a time starts a subframe: its number, and 1 where it does.
 #[repr(C)]
-#[derive(Drop)]
+#[derive(Clone, Copy)]
 pub struct Mark {
     pub number: u8,
     pub start: u8,
@@ -74,7 +74,7 @@ pub struct Mark {
 
 // How many subframes two times are apart: its number, and how many.
 #[repr(C)]
-#[derive(Drop)]
+#[derive(Clone, Copy)]
 pub struct Span {
     pub number: u8,
     pub subframes: i32,

@@ -17,7 +17,7 @@ use svn::Svn;
 
 // What building came to: its number, and how many bytes the message has.
 #[repr(C)]
-#[derive(Drop)]
+#[derive(Clone, Copy)]
 pub struct MessageBuilt {
     pub number: u8,
     pub bytes: usize,
@@ -25,7 +25,7 @@ pub struct MessageBuilt {
 
 // What reading back came to: its number, and the fields in front of the data.
 #[repr(C)]
-#[derive(Drop)]
+#[derive(Clone, Copy)]
 pub struct MessageRead {
     pub number: u8,
     pub prnd: u8,

@@ -18,7 +18,7 @@ use svn::Svn;
 
 // An orbit: its number, the count, the time, the whole numbers by their words, and the doubles.
 #[repr(C)]
-#[derive(Drop)]
+#[derive(Clone, Copy)]
 pub struct OrbitRead {
     pub number: u8,
     pub authbits: u16,
@@ -34,7 +34,7 @@ pub struct OrbitRead {
 
 // Timing parameters: their number, the count, the time, the whole numbers by their words, and the doubles.
 #[repr(C)]
-#[derive(Drop)]
+#[derive(Clone, Copy)]
 pub struct TimingRead {
     pub number: u8,
     pub authbits: u16,

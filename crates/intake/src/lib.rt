@@ -30,7 +30,7 @@ pub const TRACE: usize = 2 + 8 + 1;
 
 // What a part came to: the reader's number, how many bytes of the part were taken, and how many bytes of lines were written.
 #[repr(C)]
-#[derive(Drop)]
+#[derive(Clone, Copy)]
 pub struct Heard {
     pub number: u8,
     pub took: usize,
@@ -39,7 +39,7 @@ pub struct Heard {
 
 // What the end came to: the number of an input that ends here, whether the end was taken, and how many bytes of lines were written.
 #[repr(C)]
-#[derive(Drop)]
+#[derive(Clone, Copy)]
 pub struct Closed {
     pub number: u8,
     pub taken: bool,

@@ -15,7 +15,7 @@ use layout::HEADER;
 use records::{Ced, SATELLITE_AT, Timing};
 
 // A place: a row's number, a slot's number, or where a record starts in the room.
-#[derive(Drop)]
+#[derive(Clone, Copy)]
 pub enum Found {
     At(usize),
     Nothing,

@@ -77,14 +77,14 @@ pub struct Heading {
 }
 
 // What building came to: how many bytes the message has, or why there is none.
-#[derive(Drop)]
+#[derive(Clone, Copy)]
 pub enum Built {
     Message(usize),
     Refused(Refusal),
 }
 
 // What reading back came to.
-#[derive(Drop)]
+#[derive(Clone, Copy)]
 pub enum ReadBack {
     Message(Heading),
     // 26: a bit behind the data is set

@@ -116,14 +116,14 @@ pub fn candidate_data(room: &[u8], svn: Svn, kind: u8, cop: u8, mack: Gst) -> &[
 }
 
 // What a record hands out beside its data: its count, and its row's subframe less 30 s for each of its least age.
-#[derive(Drop)]
+#[derive(Clone, Copy)]
 pub struct Reading {
     pub authbits: u16,
     pub gst: Gst,
 }
 
 // What asking for a satellite's data came to.
-#[derive(Drop)]
+#[derive(Clone, Copy)]
 pub enum Asked {
     Found(Reading),
     Refused(Refusal),

@@ -16,7 +16,7 @@ use svn::Svn;
 
 // The scaled fields of an orbit: each whole number times 2^-k, exactly. Angles are in semicircles, their harmonic corrections in radians.
 #[repr(C)]
-#[derive(Drop)]
+#[derive(Clone, Copy)]
 pub struct Scaled {
     pub m0: f64,
     pub e: f64,
@@ -94,7 +94,7 @@ impl Scaled {
 
 // The scaled fields of the timing parameters.
 #[repr(C)]
-#[derive(Drop)]
+#[derive(Clone, Copy)]
 pub struct ScaledTiming {
     pub a0: f64,
     pub a1: f64,
@@ -113,7 +113,7 @@ impl ScaledTiming {
 }
 
 // Ephemeris, clock and status of a satellite as numbers, by the words that they came in.
-#[derive(Drop)]
+#[derive(Clone, Copy)]
 pub struct Orbit {
     pub word1: Word1,
     pub word2: Word2,
@@ -124,7 +124,7 @@ pub struct Orbit {
 }
 
 // The timing parameters of a satellite as numbers.
-#[derive(Drop)]
+#[derive(Clone, Copy)]
 pub struct TimingNumbers {
     pub word6: Word6,
     pub word10: Word10,
@@ -156,7 +156,7 @@ pub enum Placed {
 }
 
 // What reading an orbit came to: its count, its time and its numbers; or why there is none.
-#[derive(Drop)]
+#[derive(Clone, Copy)]
 pub enum GotOrbit {
     Found(u16, Gst, Orbit),
     IssuesDiffer,
@@ -165,7 +165,7 @@ pub enum GotOrbit {
 }
 
 // What reading the timing parameters came to.
-#[derive(Drop)]
+#[derive(Clone, Copy)]
 pub enum GotTiming {
     Found(u16, Gst, TimingNumbers),
     Refused(Refusal),

@@ -24,7 +24,7 @@ pub const OLDEST: u8 = 255;
 pub const LAST_WEIGHT: u8 = 8;
 
 // STORE 6: the sizes of a CED record.
-#[derive(Drop)]
+#[derive(Clone, Copy)]
 pub struct Ced;
 
 impl Ced {
@@ -82,7 +82,7 @@ impl Ced {
 }
 
 // STORE 6: the sizes of a timing record.
-#[derive(Drop)]
+#[derive(Clone, Copy)]
 pub struct Timing;
 
 impl Timing {

@@ -62,7 +62,7 @@ pub enum Refusal {
 }
 
 // The reply of a call that has no values beside its number.
-#[derive(Drop)]
+#[derive(Clone, Copy)]
 pub enum Reply {
     Done,
     Refused(Refusal),

@@ -12,7 +12,7 @@ pub const MOST_SATELLITES: u8 = 36;
 pub struct Svn(pub u8);
 
 // The satellite of a number, or that there is none.
-#[derive(Drop)]
+#[derive(Clone, Copy)]
 pub enum Satellite {
     Of(Svn),
     // 4: the number is not 1 to 36.

@@ -19,14 +19,14 @@ use svn::Svn;
 const ONE_BEFORE: i32 = 0 - SUBFRAME_SECONDS as i32;
 
 // Where the candidate's record starts in the room, or why there is none.
-#[derive(Drop)]
+#[derive(Clone, Copy)]
 pub enum Candidate {
     At(usize),
     Refused(Refusal),
 }
 
 // What a tag came to: how many records took it, or why none did.
-#[derive(Drop)]
+#[derive(Clone, Copy)]
 pub enum Tagged {
     Taken(u32),
     Refused(Refusal),
