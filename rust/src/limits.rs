@@ -57,7 +57,7 @@ pub const STACK_BYTES: usize = 352;
 /// The same for the two calls of a [`crate::Reader`].
 pub const READER_STACK_BYTES: usize = 888;
 /// The same for [`crate::Store::get_orbit`] and [`crate::Store::get_timing_numbers`].
-pub const NUMBERS_STACK_BYTES: usize = 976;
+pub const NUMBERS_STACK_BYTES: usize = 984;
 
 /// The bytes that a store of `d` rows and `n` slots takes; 0 for sizes that are not allowed.
 pub const fn room_size(d: u8, n: u8) -> usize {
