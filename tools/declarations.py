@@ -146,13 +146,11 @@ def enum_of_header(text, name):
 
 
 def numbers_of_code():
-    """Name to number: the cases of the calls' refusals, and the constants of what is answered beside them."""
-    text = code_of("refusals")
-    found = {n: int(v) for n, v in re.findall(r"Refusal::(\w+) => (\d+),", text)}
-    found.update({camel(n): int(v) for n, v in re.findall(r"^pub const (\w+): u8 = (\d+);", text, re.M)})
-    if len(found) < 2:
+    """Name to number: the cases of `Refusal`."""
+    body = re.search(r"^pub enum Refusal \{(.*?)^\}", code_of("refusals"), re.S | re.M)
+    if not body:
         sys.exit("outside: no numbers found in crates/refusals")
-    return found
+    return {n: int(v) for n, v in re.findall(r"^    (\w+) = (\d+),$", body.group(1), re.M)}
 
 
 def texts_of_header(text):
@@ -329,18 +327,26 @@ def crates_of_tree():
 
 
 def public_functions():
-    """Crate and name of each, as `gst Gst::add_seconds`. The archive's crates have none of their own: their exports are those of EXPORTS."""
+    """Crate and name of each, as `gst Gst::add_seconds`: what is `pub`, a public trait's own, as `gst Chained::add_seconds`, and what a
+    conversion of the library's is here, as `svn Svn::try_from`. The archive's crates have none of their own: their exports are those of
+    EXPORTS."""
     found = []
     for file in sorted(glob.glob("crates/*/src/**/*.rt", recursive=True)):
         if file.split("/")[1] in (crate + "_c" for crate in EXPORTS):
             continue
-        kind = ""
+        private = re.findall(r"^(?:struct|enum) (\w+)", read(file), re.M)
+        kind, every = "", False
         for line in without_comments(read(file)).splitlines():
-            opened = re.match(r"impl (\w+) \{", line)
-            kind = opened.group(1) + "::" if opened else "" if line.startswith("}") else kind
-            named = re.match(r'\s*pub (?:extern "C" )?fn (\w+)', line)
-            if named:
-                found.append(f"{file.split('/')[1]} {kind}{named.group(1)}")
+            opened = re.match(r"impl (\w+) \{|pub trait (\w+)|impl (?:Try)?From<.*> for (\w+) \{", line)
+            if opened:
+                kind, every = next(filter(None, opened.groups())) + "::", not opened.group(1)
+                if opened.group(3) in private:
+                    every = False
+            elif line.startswith("}"):
+                kind, every = "", False
+            named = re.match(r'\s*(pub )?(?:extern "C" )?fn (\w+)', line)
+            if named and (named.group(1) or every):
+                found.append(f"{file.split('/')[1]} {kind}{named.group(2)}")
     return found
 
 
@@ -449,7 +455,7 @@ def constants(held, header):
     of_c, rust = constants_of_header(header), without_comments(read(RUST + "limits.rs"))
     held.same(f"{HEADER}: constants", {n: v for n, v in of_c.items() if not n.startswith("VERSION_")}, expected)
     held.same(f"{RUST}limits.rs: constants", constants_of_rust(rust), expected)
-    lengths = [int(n) for n in re.findall(r"\bbits == (\d+)", limits)]
+    lengths = [int(n) for n in re.findall(r"\d+", re.search(r"matches!\(bits, ([\d |]+)\)", limits).group(1))]
     held.same(f"{HEADER}: lengths of a tag", tag_lengths(header, r"#define DAWNSTOOK_TAG_BITS \{(.*)\}"), lengths)
     held.same(f"{RUST}limits.rs: lengths of a tag", tag_lengths(rust, r"TAG_BITS: \[u8; \d+\] = \[(.*)\];"), lengths)
     held.done(before, f"header and crate have the {len(expected)} limits and sizes and the {len(lengths)} lengths of a tag of the code")

@@ -17,16 +17,15 @@ fn reduced(sum: u32) -> u32
     sum - BASE
 }
 
+#[tactic(auto, using(crate::proofs::Sums::sum_turn, crate::proofs::Sums::adler_done))]
 pub fn adler32(bytes: &[u8]) -> u32
     ensures { result ≡ adler_of bytes.now }
 {
     let mut s1: u32 = 1;
     let mut s2: u32 = 0;
-    let mut i = 0;
-    while i < bytes.len() {
-        s1 = reduced(s1 + numbers::as_u32(bytes[i]));
+    for &byte in bytes {
+        s1 = reduced(s1 + u32::from(byte));
         s2 = reduced(s2 + s1);
-        i += 1;
     }
     s2 * 65536 + s1
 }

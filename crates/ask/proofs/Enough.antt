@@ -19,17 +19,27 @@ use Rattle.paper.proofs.Views.{row_inside}
 use Rattle.paper.proofs.Views.{back_below}
 use Rattle.lookup.specs.Candidate.{place_of}
 use Rattle.lookup.proofs.Places.{place_inside, place_record}
-use Rattle.ask.specs.declared.Answering.TheVariants.{At, Nothing}
-use Rattle.ask.specs.Backward.{place_back, answering_at}
+use Rattle.std.specs.Prelude.{Option, Some, None}
+use Rattle.ask.specs.declared.Place.{Place}
+use Rattle.ask.specs.Backward.{here, place_back, answering_at}
 use Rattle.ask.specs.Answered.{ask_place}
 use Rattle.paper.specs.Answer.{ask_number, ask_answer}
 use Rattle.paper.specs.Satellite.{is_satellite}
 use Rattle.paper.specs.Store.{InRange, is_store}
 use Rattle.ask.proofs.Heads.{answers_at, time_head}
 
+-- what a place says, and 0 of none
+abbrev row_told : Option Place → ℕ
+row_told None = 0
+row_told (Some p) = p.row
+
+abbrev at_told : Option Place → ℕ
+at_told None = 0
+at_told (Some p) = p.at
+
 module _ (f : Family) (sat : ℕ) (room : List ℕ) where
   -- no row answers
-  pub answering_none : ltb (steps_back f sat room) (depth room) ≡ false → Nothing ≡ answering_at f sat room
+  pub answering_none : ltb (steps_back f sat room) (depth room) ≡ false → None ≡ answering_at f sat room
   unfolding answering_at some_enough
   answering_none e = rw e
 
@@ -43,31 +53,31 @@ module _ (f : Family) (sat : ℕ) (room : List ℕ) where
   answering_place_lem h = rw (answering_slot h, lt-ltb (steps_back f sat room) (depth room) h)
 
   -- ---- nothing: no record has enough
-  no_some : answering_at f sat room ≡ Nothing → some_enough f sat room ≡ false
+  no_some : answering_at f sat room ≡ None → some_enough f sat room ≡ false
   unfolding answering_at
   no_some e = go (some_enough f sat room) refl e
     where
       go : (b : Bool) → some_enough f sat room ≡ b
-          → cond b (At (row_at (slots room) (row_answering f sat room)) (place_of f (row_answering f sat room) (slot_answering f sat room) room)) Nothing ≡ Nothing
+          → cond b (here (row_at (slots room) (row_answering f sat room)) (place_of f (row_answering f sat room) (slot_answering f sat room) room)) None ≡ None
           → some_enough f sat room ≡ false
       go true h q = let z : ◌≡◌ {A = ℕ} 0 1 = cc in absurd (omega arith)
       go false h q = h
 
-  pub ask_none : answering_at f sat room ≡ Nothing → is_store room ≡ true → is_satellite sat ≡ true
+  pub ask_none : answering_at f sat room ≡ None → is_store room ≡ true → is_satellite sat ≡ true
       → (refused 12 ≡ ask_answer f sat room) × (0 ≡ ask_place f sat room)
   unfolding ask_answer ask_place ask_number
   ask_none e store known = let h = no_some e in (rw (store, known, h), rw (store, known, h))
 
   -- ---- a place: the row and the record that answer
-  module _ (row at : ℕ) (e : answering_at f sat room ≡ At row at) where
+  module _ (row at : ℕ) (e : answering_at f sat room ≡ here row at) where
     shown : (some_enough f sat room ≡ true) × ((row ≡ row_at (slots room) (row_answering f sat room)) × (at ≡ place_of f (row_answering f sat room) (slot_answering f sat room) room))
     unfolding answering_at
     shown = go (some_enough f sat room) refl e
       where
         go : (b : Bool) → some_enough f sat room ≡ b
-            → cond b (At (row_at (slots room) (row_answering f sat room)) (place_of f (row_answering f sat room) (slot_answering f sat room) room)) Nothing ≡ At row at
+            → cond b (here (row_at (slots room) (row_answering f sat room)) (place_of f (row_answering f sat room) (slot_answering f sat room) room)) None ≡ here row at
             → (some_enough f sat room ≡ true) × ((row ≡ row_at (slots room) (row_answering f sat room)) × (at ≡ place_of f (row_answering f sat room) (slot_answering f sat room) room))
-        go true h q = (h, (cc, cc))
+        go true h q = (h, (sym (ap row_told q), sym (ap at_told q)))
         go false h q = let z : ◌≡◌ {A = ℕ} 0 1 = cc in absurd (omega arith)
 
     steps : steps_back f sat room < depth room

@@ -1,23 +1,22 @@
 -- STORE 14.1: the number and the values for what asking came to, and where the record that answers starts in the room.
-use Rattle.std.specs.Prelude.{ℕ, cond, List, [], ◌∷◌, eqb}
-use Rattle.paper.specs.Number.{Answer, done, refused}
+use Rattle.std.specs.Prelude.{ℕ, cond, List, [], ◌∷◌, eqb, Result, Ok, Err}
+use Rattle.paper.specs.Number.{Answer}
 use Rattle.paper.specs.Record.{Family}
 use Rattle.paper.specs.Ask.{row_answering, slot_answering}
 use Rattle.paper.specs.Answer.{ask_number}
 use Rattle.lookup.specs.Candidate.{place_of}
-use Rattle.refusals.specs.Reply.{refusal_number}
-use Rattle.ask.specs.declared.Answered.{Answered}
-use Rattle.ask.specs.declared.Answered.TheVariants.{Record, Refused}
+use Rattle.refusals.specs.Reply.{answer_of}
+use Rattle.refusals.specs.declared.Refusal.{Refusal}
+use Rattle.ask.specs.declared.Answering.{Answering}
 
 -- STORE 12.3: the count, and the time less 30 s for each of the least age
-abbrev pub answered_answer : Answered → Answer
-answered_answer (Record place n gst) = done (n ∷ gst.wn.0 ∷ gst.tow.0 ∷ [])
-answered_answer (Refused why) = refused (refusal_number why)
+abbrev pub answered_answer : Result Answering Refusal → Answer
+answered_answer = answer_of (λ a. a.authbits ∷ a.gst.wn.0 ∷ a.gst.tow.0 ∷ [])
 
 -- where the record starts in the room; 0 beside a refusal
-abbrev pub place_answered : Answered → ℕ
-place_answered (Record place n gst) = place
-place_answered (Refused why) = 0
+abbrev pub place_answered : Result Answering Refusal → ℕ
+place_answered (Ok a) = a.at
+place_answered (Err why) = 0
 
 unfoldable pub ask_place : Family → ℕ → List ℕ → ℕ
 ask_place f sat room =

@@ -5,8 +5,6 @@ ghost use Rattle.std.specs.Prelude.{◌≡◌, ◌+◌, ◌≤◌, length, get_o
 ghost use Rattle.paper.specs.Big.{be16, be32};
 ghost use Rattle.paper.specs.Record.{CED, data_bytes};
 ghost use Rattle.paper.specs.Call.{fresh_call, reset_call, answer_to, room_after};
-ghost use Rattle.refusals.specs.Reply.{reply_answer};
-ghost use Rattle.tags.specs.Candidates.{tagged_answer};
 ghost use Rattle.navmessage.specs.Asked.{asked_answer};
 ghost use Rattle.lines.specs.Lines.{outcome_answer, longest_line};
 ghost use Rattle.benchlines.specs.Items.{word_call, ruled_call, candidate_on, tag_call_on, whole_answer, whole_data, whole_room, whole_line};
@@ -16,12 +14,11 @@ ghost use Rattle.text.specs.Text.{Put};
 
 use gst::{Gst, Tow, Wn};
 use limits::WORD_BYTES;
-use lines::{Kind, Outcome};
-use navmessage::Asked;
+use lines::{Kind, Outcome, Said};
+use navmessage::Reading;
 use records::{Ced, Timing};
-use refusals::{Reply, UNKNOWN_KIND};
+use refusals::Refusal;
 use svn::Svn;
-use tags::Tagged;
 use text::put_bytes;
 
 // where a word's bytes start in its body, behind satellite, band, week and time
@@ -39,34 +36,12 @@ fn time(body: &[u8], at: usize) -> Gst
     Gst { wn, tow }
 }
 
-fn replied(reply: Reply) -> Outcome
-    ensures { outcome_answer result ≡ reply_answer reply }
-{
-    match reply {
-        Reply::Done => Outcome::Done,
-        Reply::Refused(why) => Outcome::Refused(refusals::number(why)),
-    }
-}
-
-fn tagged(answer: Tagged) -> Outcome
-    ensures { outcome_answer result ≡ tagged_answer answer }
-{
-    match answer {
-        Tagged::Taken(records) => Outcome::Total(records),
-        Tagged::Refused(why) => Outcome::Refused(refusals::number(why)),
-    }
-}
-
-fn asked(answer: Asked) -> Outcome
+// What asking came to, as it is said.
+fn asked(answer: Result<Reading, Refusal>) -> Outcome
     ensures { outcome_answer result ≡ asked_answer answer }
 {
-    match answer {
-        Asked::Found(reading) => {
-            let gst = reading.gst;
-            Outcome::Reading(reading.authbits, gst)
-        }
-        Asked::Refused(why) => Outcome::Refused(refusals::number(why)),
-    }
+    let reading = answer?;
+    Ok(Said::Reading(reading.authbits, reading.gst))
 }
 
 // Satellite, band, week (2), time (4), 16 bytes.
@@ -77,7 +52,8 @@ fn word(room: &mut [u8], body: &[u8]) -> Outcome
         × (room.new ≡ room_after (word_call body.now) room.old) }
 {
     let gst = time(body, 2);
-    replied(navmessage::feed(room, &body[WORD_AT..WORD_END], Svn(body[0]), gst, body[1]))
+    navmessage::feed(room, &body[WORD_AT..WORD_END], Svn(body[0]), gst, body[1])?;
+    Ok(Said::Done)
 }
 
 // The data of either family, or none, to the start of `given`: how many bytes. Each length by itself: a copy of a length that is not known
@@ -120,7 +96,7 @@ fn tag(room: &mut [u8], body: &[u8]) -> Outcome
     let n = candidate(room, body, &mut given);
     let gst = time(body, 6);
     let verdict = body[5] != 0;
-    tagged(navmessage::tag(
+    let records = navmessage::tag(
         room,
         Svn(body[0]),
         body[1],
@@ -130,14 +106,16 @@ fn tag(room: &mut [u8], body: &[u8]) -> Outcome
         gst,
         &given[..n],
         verdict,
-    ))
+    )?;
+    Ok(Said::Total(records))
 }
 
 #[tactic(auto, unfolding(paper::specs::Call::answer_to, paper::specs::Call::room_after))]
 fn reset(room: &mut [u8]) -> Outcome
     ensures { (outcome_answer result ≡ answer_to reset_call room.old) × (room.new ≡ room_after reset_call room.old) }
 {
-    replied(navmessage::reset_authbits(room))
+    navmessage::reset_authbits(room)?;
+    Ok(Said::Done)
 }
 
 // D, N: rule 0, whatever the room had.
@@ -147,7 +125,8 @@ fn fresh(room: &mut [u8], body: &[u8]) -> Outcome
     ensures { (outcome_answer result ≡ answer_to (fresh_call (get_or body.now 0 0) (get_or body.now 1 0) 0) room.old)
         × (room.new ≡ room_after (fresh_call (get_or body.now 0 0) (get_or body.now 1 0) 0) room.old) }
 {
-    replied(navmessage::fresh(room, body[0], body[1], 0))
+    navmessage::fresh(room, body[0], body[1], 0)?;
+    Ok(Said::Done)
 }
 
 // D, N, rule.
@@ -157,17 +136,18 @@ fn fresh_ruled(room: &mut [u8], body: &[u8]) -> Outcome
     ensures { (outcome_answer result ≡ answer_to (ruled_call body.now) room.old)
         × (room.new ≡ room_after (ruled_call body.now) room.old) }
 {
-    replied(navmessage::fresh(room, body[0], body[1], body[2]))
+    navmessage::fresh(room, body[0], body[1], body[2])?;
+    Ok(Said::Done)
 }
 
 // The satellite that an item names: the first byte of its body.
 fn satellite(body: &[u8]) -> Svn
     ensures { result.0 ≡ get_or body.now 0 0 }
 {
-    if body.len() == 0 {
-        return Svn(0);
+    match body {
+        [number, ..] => Svn(*number),
+        [] => Svn(0),
     }
-    Svn(body[0])
 }
 
 // What an item's call answers, and the room after it.
@@ -185,7 +165,7 @@ pub fn outcome(room: &mut [u8], kind: Kind, body: &[u8]) -> Outcome
         Kind::Timing => asked(navmessage::get_timing_parameters(room, satellite(body))),
         Kind::Fresh => fresh(room, body),
         Kind::FreshRuled => fresh_ruled(room, body),
-        Kind::Unknown => Outcome::Refused(UNKNOWN_KIND),
+        Kind::Unknown => Err(u8::from(Refusal::UnknownKind)),
     }
 }
 

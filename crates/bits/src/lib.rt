@@ -1,14 +1,16 @@
 // Bits of bytes, from the top bit of the first byte on (STORE 5.1): a move of bits that goes byte by byte and ensures what
 // the bit-by-bit definition says.
+// kept: bytes and the bit to begin at are two parameters, since `moved` and `changed`, in which contracts above speak, have them so
 #![tactic(auto)]
 
 ghost use Rattle.std.specs.Prelude.{◌≡◌, true, cond, ◌+◌, ◌-◌, ◌*◌, ◌/◌, ◌%◌, ◌^◌, ◌≤◌, ◌<◌, min, eqb, length, get_or, set};
 ghost use Rattle.paper.specs.Bits.{spliced, moved, changed};
 ghost use Rattle.bits.specs.Field.{field_of};
 
-use numbers::as_u32;
+use numbers::byte_or_zero;
 
 // b with the k bits from weight 2 ^ s on made v.
+#[tactic(auto, using(crate::proofs::Shifts::joined_fits, crate::proofs::Shifts::joined_is))]
 fn joined(b: u32, s: usize, k: usize, v: u32) -> u8
     requires { (k + s ≤ 8) × (b < 256) × (v < 2 ^ k) }
     ensures { result ≡ spliced s k b v }
@@ -18,21 +20,14 @@ fn joined(b: u32, s: usize, k: usize, v: u32) -> u8
     (high + low) as u8
 }
 
-// Byte j, or 0 past the end: behind the last bits of a slice stands no byte.
-fn byte_or_zero(w: &[u8], j: usize) -> u32
-    ensures { (result ≡ get_or w.now j 0) × (result < 256) }
-{
-    if j < w.len() { as_u32(w[j]) } else { 0 }
-}
-
 // The k bits of w from bit p on, as a number.
 fn field(w: &[u8], p: usize, k: usize) -> u32
     requires { (k ≤ 8) × (p / 8 < length w.now) }
     ensures { result ≡ field_of w.now p k }
 {
     let j = p / 8;
-    let a = as_u32(w[j]);
-    let b = byte_or_zero(w, j + 1);
+    let a = u32::from(w[j]);
+    let b = u32::from(byte_or_zero(w, j + 1));
     ((a * 256 + b) >> (16 - (p % 8 + k))) % (1u32 << k)
 }
 
@@ -54,7 +49,7 @@ fn move_field(d: &mut [u8], to: usize, w: &[u8], from: usize, k: usize, hit: boo
 {
     let v = field(w, from, k);
     let j = to / 8;
-    let y = joined(as_u32(d[j]), 8 - (to % 8 + k), k, v);
+    let y = joined(u32::from(d[j]), 8 - (to % 8 + k), k, v);
     put_byte(d, j, y, hit)
 }
 
@@ -64,8 +59,8 @@ fn move_byte(d: &mut [u8], i: usize, w: &[u8], j: usize, r: usize, hit: bool) ->
     ensures { (d.new ≡ moved d.old (8 * i) w.now (8 * j + r) 8)
         × (result ≡ cond (changed d.old (8 * i) w.now (8 * j + r) 8) true hit) }
 {
-    let a = as_u32(w[j]);
-    let b = as_u32(w[j + 1]);
+    let a = u32::from(w[j]);
+    let b = u32::from(w[j + 1]);
     let y = (((a * 256 + b) >> (8 - r)) % 256) as u8;
     put_byte(d, i, y, hit)
 }
@@ -80,10 +75,8 @@ fn move_bytes(d: &mut [u8], i: usize, w: &[u8], from: usize, count: usize, befor
     let j = from / 8;
     let r = from % 8;
     let mut hit = before;
-    let mut n = 0;
-    while n < count {
+    for n in 0..count {
         hit = move_byte(d, i + n, w, j + n, r, hit);
-        n += 1;
     }
     hit
 }
@@ -92,8 +85,7 @@ fn move_bytes(d: &mut [u8], i: usize, w: &[u8], from: usize, count: usize, befor
 fn run(i: usize, left: usize) -> usize
     ensures { result ≡ min (8 - i % 8) left }
 {
-    let here = 8 - i % 8;
-    if here < left { here } else { left }
+    (8 - i % 8).min(left)
 }
 
 // d with its bits from `to` on made those of w from `from` on, `size` of them; whether one was another comes back. First go the bits up to

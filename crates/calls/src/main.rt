@@ -7,17 +7,16 @@
 // lines that the gate compares with are those of tools/model, which was written from the rules (STORE 1.1, 7.7) and not from this program.
 #![tactic(auto)]
 
-use gst::{Gst, Tow, Wn};
+use gst::Gst;
 use layout::{
     CURRENT_AT, DEPTH_AT, HEADER, MARK_AT, ROW_HEAD, RULE_AT, SLOT, SLOTS_AT, SPARE_AT, TIME_AT,
     TIMING_AT, WEEK_AT, ZEROS_AT,
 };
-use navmessage::Asked;
-use records::{AGES_AT, COUNT_AT};
-use refusals::Reply;
+use navmessage::Reading;
+use records::{AGES_AT, COUNT_AT, Ced, Timing};
+use refusals::Refusal;
 use std::io;
 use svn::Svn;
-use tags::Tagged;
 
 // The room: a store of D 2 and N 2, and six bytes behind it that are not the store's.
 const STORE: usize = HEADER + 2 * (ROW_HEAD + 2 * SLOT);
@@ -59,81 +58,51 @@ fn text(rt: HostRuntime, letters: &[u8]) {
     heard(rt, rt.write_all(letters));
 }
 
-fn number(rt: HostRuntime, n: u64) {
-    text(rt, b" ");
-    heard(rt, print!(rt; "{n}"));
-}
-
-fn byte(rt: HostRuntime, n: u8) {
-    number(rt, n as u64);
-}
-
-fn sum(rt: HostRuntime, bytes: &[u8]) {
-    let sum = adler::adler32(bytes);
-    number(rt, sum as u64);
-}
-
 fn part(rt: HostRuntime, bytes: &[u8]) {
-    text(rt, b", part");
-    number(rt, bytes.len() as u64);
-    sum(rt, bytes);
+    let length = bytes.len();
+    let sum = adler::adler32(bytes);
+    heard(rt, print!(rt; ", part {length} {sum}"));
 }
 
 fn end(rt: HostRuntime, room: &[u8]) {
-    text(rt, b" #");
-    sum(rt, room);
-    text(rt, b"\n");
+    let sum = adler::adler32(room);
+    heard(rt, println!(rt; " # {sum}"));
 }
 
-fn time(rt: HostRuntime, gst: Gst) {
-    let week = gst.wn.0;
-    let time = gst.tow.0;
-    number(rt, week as u64);
-    number(rt, time as u64);
+fn refused(rt: HostRuntime, why: Refusal) {
+    let number = u8::from(why);
+    heard(rt, print!(rt; " {number}"));
 }
 
-fn at(week: u16, time: u32) -> Gst {
-    Gst {
-        wn: Wn(week),
-        tow: Tow(time),
-    }
-}
-
-fn reply(rt: HostRuntime, reply: Reply) {
+fn reply(rt: HostRuntime, reply: Result<(), Refusal>) {
     match reply {
-        Reply::Done => number(rt, 0),
-        Reply::Refused(why) => byte(rt, refusals::number(why)),
+        Ok(()) => text(rt, b" 0"),
+        Err(why) => refused(rt, why),
     }
 }
 
-fn tagged(rt: HostRuntime, tagged: Tagged) {
+fn tagged(rt: HostRuntime, tagged: Result<u32, Refusal>) {
     match tagged {
-        Tagged::Taken(n) => {
-            number(rt, 0);
-            number(rt, n as u64);
-        }
-        Tagged::Refused(why) => byte(rt, refusals::number(why)),
+        Ok(records) => heard(rt, print!(rt; " 0 {records}")),
+        Err(why) => refused(rt, why),
     }
 }
 
-fn asked(rt: HostRuntime, asked: Asked) {
+// kept a function: a Display of Reading would stand in navmessage, and only this program writes one
+fn asked(rt: HostRuntime, asked: Result<Reading, Refusal>) {
     match asked {
-        Asked::Found(reading) => {
+        Ok(reading) => {
             let authbits = reading.authbits;
-            number(rt, 0);
-            number(rt, authbits as u64);
-            time(rt, reading.gst);
+            let week = reading.gst.wn.0;
+            let time = reading.gst.tow.0;
+            heard(rt, print!(rt; " 0 {authbits} {week} {time}"));
         }
-        Asked::Refused(why) => byte(rt, refusals::number(why)),
+        Err(why) => refused(rt, why),
     }
 }
 
 fn fresh(rt: HostRuntime, room: &mut [u8; ROOM], d: u8, n: u8, rule: u8) {
-    text(rt, b"fresh");
-    byte(rt, d);
-    byte(rt, n);
-    byte(rt, rule);
-    text(rt, b":");
+    heard(rt, print!(rt; "fresh {d} {n} {rule}:"));
     reply(rt, navmessage::fresh(room, d, n, rule));
     end(rt, room);
 }
@@ -147,15 +116,13 @@ fn feed(
     tow: u32,
     band: u8,
 ) {
-    let gst = at(week, tow);
-    text(rt, b"feed");
-    byte(rt, svn);
-    time(rt, gst);
-    byte(rt, band);
-    text(rt, b" word");
-    number(rt, word.len() as u64);
-    sum(rt, word);
-    text(rt, b":");
+    let gst = Gst::new(week, tow);
+    let length = word.len();
+    let sum = adler::adler32(word);
+    heard(
+        rt,
+        print!(rt; "feed {svn} {week} {tow} {band} word {length} {sum}:"),
+    );
     reply(rt, navmessage::feed(room, word, Svn(svn), gst, band));
     end(rt, room);
 }
@@ -179,18 +146,13 @@ fn tag(
     tow: u32,
     given: &[u8],
 ) {
-    let mack = at(week, tow);
-    text(rt, b"tag");
-    byte(rt, svn);
-    byte(rt, kind);
-    byte(rt, cop);
-    byte(rt, bits);
-    byte(rt, status);
-    time(rt, mack);
-    text(rt, b" given");
-    number(rt, given.len() as u64);
-    sum(rt, given);
-    text(rt, b":");
+    let mack = Gst::new(week, tow);
+    let length = given.len();
+    let sum = adler::adler32(given);
+    heard(
+        rt,
+        print!(rt; "tag {svn} {kind} {cop} {bits} {status} {week} {tow} given {length} {sum}:"),
+    );
     tagged(
         rt,
         navmessage::tag(room, Svn(svn), kind, cop, bits, status, mack, given, true),
@@ -209,13 +171,11 @@ fn tag_no(
     tow: u32,
     given: &[u8],
 ) {
-    let mack = at(week, tow);
-    text(rt, b"tag with the verdict no");
-    byte(rt, svn);
-    byte(rt, kind);
-    byte(rt, cop);
-    byte(rt, status);
-    text(rt, b":");
+    let mack = Gst::new(week, tow);
+    heard(
+        rt,
+        print!(rt; "tag with the verdict no {svn} {kind} {cop} {status}:"),
+    );
     tagged(
         rt,
         navmessage::tag(room, Svn(svn), kind, cop, 40, status, mack, given, false),
@@ -224,13 +184,8 @@ fn tag_no(
 }
 
 fn candidate(rt: HostRuntime, room: &[u8; ROOM], svn: u8, kind: u8, cop: u8, week: u16, tow: u32) {
-    let mack = at(week, tow);
-    text(rt, b"candidate");
-    byte(rt, svn);
-    byte(rt, kind);
-    byte(rt, cop);
-    time(rt, mack);
-    text(rt, b":");
+    let mack = Gst::new(week, tow);
+    heard(rt, print!(rt; "candidate {svn} {kind} {cop} {week} {tow}:"));
     reply(rt, navmessage::candidate(room, Svn(svn), kind, cop, mack));
     part(
         rt,
@@ -240,15 +195,11 @@ fn candidate(rt: HostRuntime, room: &[u8; ROOM], svn: u8, kind: u8, cop: u8, wee
 }
 
 fn ask(rt: HostRuntime, room: &[u8; ROOM], svn: u8) {
-    text(rt, b"ask for CED");
-    byte(rt, svn);
-    text(rt, b":");
+    heard(rt, print!(rt; "ask for CED {svn}:"));
     asked(rt, navmessage::get_ced_and_status(room, Svn(svn)));
     part(rt, navmessage::ced_and_status_data(room, Svn(svn)));
     end(rt, room);
-    text(rt, b"ask for timing");
-    byte(rt, svn);
-    text(rt, b":");
+    heard(rt, print!(rt; "ask for timing {svn}:"));
     asked(rt, navmessage::get_timing_parameters(room, Svn(svn)));
     part(rt, navmessage::timing_parameters_data(room, Svn(svn)));
     end(rt, room);
@@ -264,18 +215,31 @@ fn reset(rt: HostRuntime, room: &mut [u8; ROOM]) {
 fn every(rt: HostRuntime, room: &mut [u8; ROOM]) {
     let word = [4; 16];
     let given = [255; 69];
-    reply(rt, navmessage::feed(room, &word, Svn(5), at(WEEK, T), 0));
+    reply(
+        rt,
+        navmessage::feed(room, &word, Svn(5), Gst::new(WEEK, T), 0),
+    );
     tagged(
         rt,
-        navmessage::tag(room, Svn(5), 0, 15, 40, 2, at(WEEK, T30), &given, true),
+        navmessage::tag(
+            room,
+            Svn(5),
+            0,
+            15,
+            40,
+            2,
+            Gst::new(WEEK, T30),
+            &given,
+            true,
+        ),
     );
     reply(
         rt,
-        navmessage::candidate(room, Svn(5), 0, 15, at(WEEK, T30)),
+        navmessage::candidate(room, Svn(5), 0, 15, Gst::new(WEEK, T30)),
     );
     part(
         rt,
-        navmessage::candidate_data(room, Svn(5), 0, 15, at(WEEK, T30)),
+        navmessage::candidate_data(room, Svn(5), 0, 15, Gst::new(WEEK, T30)),
     );
     asked(rt, navmessage::get_ced_and_status(room, Svn(5)));
     part(rt, navmessage::ced_and_status_data(room, Svn(5)));
@@ -285,28 +249,17 @@ fn every(rt: HostRuntime, room: &mut [u8; ROOM]) {
     end(rt, room);
 }
 
-fn read(room: &[u8; ROOM], place: usize) -> u8 {
-    if place >= ROOM {
-        return 0;
-    }
-    room[place]
-}
-
 fn write(room: &mut [u8; ROOM], place: usize, value: u8) {
-    if place < ROOM {
-        room[place] = value;
+    if let Some(byte) = room.get_mut(place) {
+        *byte = value;
     }
 }
 
 // Every call on the room with one byte changed; then the byte is put back.
 fn spoilt(rt: HostRuntime, room: &mut [u8; ROOM], place: usize, value: u8) {
-    let old = read(room, place);
+    let old = numbers::byte_or_zero(room, place);
     write(room, place, value);
-    text(rt, b"byte");
-    number(rt, place as u64);
-    text(rt, b" is");
-    byte(rt, value);
-    text(rt, b":");
+    heard(rt, print!(rt; "byte {place} is {value}:"));
     every(rt, room);
     write(room, place, old);
 }
@@ -314,11 +267,7 @@ fn spoilt(rt: HostRuntime, room: &mut [u8; ROOM], place: usize, value: u8) {
 // A fresh store on a room that is a byte short of D 2 and N 2.
 fn fresh_short(rt: HostRuntime, d: u8, n: u8, rule: u8) {
     let mut room = [7; STORE - 1];
-    text(rt, b"fresh on a byte less");
-    byte(rt, d);
-    byte(rt, n);
-    byte(rt, rule);
-    text(rt, b":");
+    heard(rt, print!(rt; "fresh on a byte less {d} {n} {rule}:"));
     reply(rt, navmessage::fresh(&mut room, d, n, rule));
     end(rt, &room);
 }
@@ -327,10 +276,23 @@ fn fresh_short(rt: HostRuntime, d: u8, n: u8, rule: u8) {
 fn every_written(rt: HostRuntime, room: &mut [u8]) {
     let word = [4; 16];
     let given = [255; 69];
-    reply(rt, navmessage::feed(room, &word, Svn(5), at(WEEK, T), 0));
+    reply(
+        rt,
+        navmessage::feed(room, &word, Svn(5), Gst::new(WEEK, T), 0),
+    );
     tagged(
         rt,
-        navmessage::tag(room, Svn(5), 0, 15, 40, 2, at(WEEK, T30), &given, true),
+        navmessage::tag(
+            room,
+            Svn(5),
+            0,
+            15,
+            40,
+            2,
+            Gst::new(WEEK, T30),
+            &given,
+            true,
+        ),
     );
     reply(rt, navmessage::reset_authbits(room));
     end(rt, room);
@@ -495,19 +457,7 @@ fn tag_of_none(
     week: u16,
     tow: u32,
 ) {
-    let given = [255; 69];
-    tag(
-        rt,
-        room,
-        svn,
-        kind,
-        cop,
-        bits,
-        status,
-        week,
-        tow,
-        &given[0..0],
-    );
+    tag(rt, room, svn, kind, cop, bits, status, week, tow, &[]);
 }
 
 // 4, 5, 6, 8, 9, 7, 16, 10, each before those that come later.
@@ -635,28 +585,6 @@ fn unknown_ages(rt: HostRuntime, room: &mut [u8; ROOM]) {
 }
 
 // ---- every value of a number
-// The number of a call that goes through its values; the others are allowed.
-#[derive(Clone, Copy)]
-enum Swept {
-    Rows,
-    Slots,
-    Rule,
-    Band,
-    FedSatellite,
-    Kind,
-    Cop,
-    Length,
-    Status,
-    TagSatellite,
-    ShownKind,
-    ShownCop,
-    ShownSatellite,
-    AskedSatellite,
-    Count,
-    Age,
-    Gone,
-}
-
 // A tag of E01 over the ones that its record holds.
 fn one_tag(
     rt: HostRuntime,
@@ -677,7 +605,7 @@ fn one_tag(
             cop,
             bits,
             status,
-            at(WEEK, T30),
+            Gst::new(WEEK, T30),
             &given,
             true,
         ),
@@ -687,7 +615,7 @@ fn one_tag(
 fn one_shown(rt: HostRuntime, room: &[u8; ROOM], svn: u8, kind: u8, cop: u8) {
     reply(
         rt,
-        navmessage::candidate(room, Svn(svn), kind, cop, at(WEEK, T30)),
+        navmessage::candidate(room, Svn(svn), kind, cop, Gst::new(WEEK, T30)),
     );
 }
 
@@ -700,11 +628,8 @@ fn one_count(rt: HostRuntime, room: &mut [u8; ROOM], v: u8) {
 
 // The ages of the CED record of slot 1, and what asking for it says.
 fn one_age(rt: HostRuntime, room: &mut [u8; ROOM], v: u8) {
-    room[CED_1 + AGES_AT] = v;
-    room[CED_1 + AGES_AT + 1] = v;
-    room[CED_1 + AGES_AT + 2] = v;
-    room[CED_1 + AGES_AT + 3] = v;
-    room[CED_1 + AGES_AT + 4] = v;
+    let ages = CED_1 + AGES_AT;
+    room[ages..ages + Ced::WORDS].fill(v);
     asked(rt, navmessage::get_ced_and_status(room, Svn(1)));
 }
 
@@ -713,46 +638,43 @@ fn one_gone(rt: HostRuntime, room: &mut [u8; ROOM], v: u8) {
     let mut word = [255; 16];
     word[0] = 27;
     reply(rt, navmessage::fresh(room, 1, 1, 1));
-    reply(rt, navmessage::feed(room, &word, Svn(1), at(WEEK, T), 0));
+    reply(
+        rt,
+        navmessage::feed(room, &word, Svn(1), Gst::new(WEEK, T), 0),
+    );
     word[0] = 3;
     reply(
         rt,
-        navmessage::feed(room, &word, Svn(1), at(WEEK, T + 60 * (v as u32)), 0),
+        navmessage::feed(
+            room,
+            &word,
+            Svn(1),
+            Gst::new(WEEK, T + 60 * u32::from(v)),
+            0,
+        ),
     );
-    byte(rt, room[TIMING_0 + AGES_AT]);
+    let age = room[TIMING_0 + AGES_AT];
+    heard(rt, print!(rt; " {age}"));
 }
 
-fn one(rt: HostRuntime, room: &mut [u8; ROOM], swept: Swept, v: u8) {
+// A word 1 of ones.
+fn one_word(rt: HostRuntime, room: &mut [u8; ROOM], svn: u8, band: u8) {
     let mut word = [255; 16];
     word[0] = 7;
-    match swept {
-        Swept::Rows => reply(rt, navmessage::fresh(room, v, 1, 0)),
-        Swept::Slots => reply(rt, navmessage::fresh(room, 1, v, 0)),
-        Swept::Rule => reply(rt, navmessage::fresh(room, 1, 1, v)),
-        Swept::Band => reply(rt, navmessage::feed(room, &word, Svn(1), at(WEEK, T), v)),
-        Swept::FedSatellite => reply(rt, navmessage::feed(room, &word, Svn(v), at(WEEK, T), 0)),
-        Swept::Kind => one_tag(rt, room, 1, v, 1, 40, 2),
-        Swept::Cop => one_tag(rt, room, 1, 0, v, 40, 2),
-        Swept::Length => one_tag(rt, room, 1, 0, 1, v, 2),
-        Swept::Status => one_tag(rt, room, 1, 0, 1, 40, v),
-        Swept::TagSatellite => one_tag(rt, room, v, 0, 1, 40, 2),
-        Swept::ShownKind => one_shown(rt, room, 1, v, 1),
-        Swept::ShownCop => one_shown(rt, room, 1, 0, v),
-        Swept::ShownSatellite => one_shown(rt, room, v, 0, 1),
-        Swept::AskedSatellite => asked(rt, navmessage::get_ced_and_status(room, Svn(v))),
-        Swept::Count => one_count(rt, room, v),
-        Swept::Age => one_age(rt, room, v),
-        Swept::Gone => one_gone(rt, room, v),
-    }
+    reply(
+        rt,
+        navmessage::feed(room, &word, Svn(svn), Gst::new(WEEK, T), band),
+    );
 }
 
-fn sweep(rt: HostRuntime, room: &mut [u8; ROOM], name: &[u8], swept: Swept) {
+// A call with each value of one of its numbers; the others are allowed.
+fn sweep<F: Fn(&mut [u8; ROOM], u8)>(rt: HostRuntime, room: &mut [u8; ROOM], name: &[u8], one: F)
+    requires { F.IsAlwaysCallable one }
+{
     text(rt, name);
     text(rt, b":");
-    let mut v: u16 = 0;
-    while v < 256 {
-        one(rt, room, swept, v as u8);
-        v += 1;
+    for v in 0..=u8::MAX {
+        one(room, v);
     }
     end(rt, room);
 }
@@ -764,35 +686,103 @@ fn begin(rt: HostRuntime, room: &mut [u8; ROOM]) {
 }
 
 fn every_value(rt: HostRuntime, room: &mut [u8; ROOM]) {
-    sweep(rt, room, b"every D", Swept::Rows);
-    sweep(rt, room, b"every N", Swept::Slots);
-    sweep(rt, room, b"every rule", Swept::Rule);
+    sweep(
+        rt,
+        room,
+        b"every D",
+        |room, v| reply(rt, navmessage::fresh(room, v, 1, 0)),
+    );
+    sweep(
+        rt,
+        room,
+        b"every N",
+        |room, v| reply(rt, navmessage::fresh(room, 1, v, 0)),
+    );
+    sweep(
+        rt,
+        room,
+        b"every rule",
+        |room, v| reply(rt, navmessage::fresh(room, 1, 1, v)),
+    );
     begin(rt, room);
-    sweep(rt, room, b"a word of every band", Swept::Band);
-    sweep(rt, room, b"a tag of every kind", Swept::Kind);
-    sweep(rt, room, b"a tag of every COP", Swept::Cop);
-    sweep(rt, room, b"a tag of every length", Swept::Length);
-    sweep(rt, room, b"a tag of every status", Swept::Status);
-    sweep(rt, room, b"a tag of every satellite", Swept::TagSatellite);
+    sweep(
+        rt,
+        room,
+        b"a word of every band",
+        |room, v| one_word(rt, room, 1, v),
+    );
+}
+
+fn every_value_of_tags(rt: HostRuntime, room: &mut [u8; ROOM]) {
+    sweep(
+        rt,
+        room,
+        b"a tag of every kind",
+        |room, v| one_tag(rt, room, 1, v, 1, 40, 2),
+    );
+    sweep(
+        rt,
+        room,
+        b"a tag of every COP",
+        |room, v| one_tag(rt, room, 1, 0, v, 40, 2),
+    );
+    sweep(
+        rt,
+        room,
+        b"a tag of every length",
+        |room, v| one_tag(rt, room, 1, 0, 1, v, 2),
+    );
+    sweep(
+        rt,
+        room,
+        b"a tag of every status",
+        |room, v| one_tag(rt, room, 1, 0, 1, 40, v),
+    );
+    sweep(
+        rt,
+        room,
+        b"a tag of every satellite",
+        |room, v| one_tag(rt, room, v, 0, 1, 40, 2),
+    );
 }
 
 fn every_value_asked(rt: HostRuntime, room: &mut [u8; ROOM]) {
-    sweep(rt, room, b"the candidate of every kind", Swept::ShownKind);
-    sweep(rt, room, b"the candidate of every COP", Swept::ShownCop);
+    sweep(
+        rt,
+        room,
+        b"the candidate of every kind",
+        |room, v| one_shown(rt, room, 1, v, 1),
+    );
+    sweep(
+        rt,
+        room,
+        b"the candidate of every COP",
+        |room, v| one_shown(rt, room, 1, 0, v),
+    );
     sweep(
         rt,
         room,
         b"the candidate of every satellite",
-        Swept::ShownSatellite,
+        |room, v| one_shown(rt, room, v, 0, 1),
     );
     sweep(
         rt,
         room,
         b"asking for every satellite",
-        Swept::AskedSatellite,
+        |room, v| asked(rt, navmessage::get_ced_and_status(room, Svn(v))),
     );
-    sweep(rt, room, b"asking for every count up to 255", Swept::Count);
-    sweep(rt, room, b"a word of every satellite", Swept::FedSatellite);
+    sweep(
+        rt,
+        room,
+        b"asking for every count up to 255",
+        |room, v| one_count(rt, room, v),
+    );
+    sweep(
+        rt,
+        room,
+        b"a word of every satellite",
+        |room, v| one_word(rt, room, v, 0),
+    );
 }
 
 // Both under the rule by time.
@@ -800,12 +790,17 @@ fn every_age(rt: HostRuntime, room: &mut [u8; ROOM]) {
     fresh(rt, room, 2, 2, 1);
     all_words(rt, room, 1, WEEK, T);
     room[CED_1 + COUNT_AT + 1] = 40;
-    sweep(rt, room, b"asking for every age", Swept::Age);
+    sweep(
+        rt,
+        room,
+        b"asking for every age",
+        |room, v| one_age(rt, room, v),
+    );
     sweep(
         rt,
         room,
         b"an age after every even number of subframes up to 510",
-        Swept::Gone,
+        |room, v| one_gone(rt, room, v),
     );
 }
 
@@ -814,15 +809,10 @@ fn every_age(rt: HostRuntime, room: &mut [u8; ROOM]) {
 fn take_slot_0(room: &mut [u8; ROOM]) {
     room[CED_0] = 1;
     room[CED_0 + COUNT_AT + 1] = 41;
-    room[CED_0 + AGES_AT] = 0;
-    room[CED_0 + AGES_AT + 1] = 0;
-    room[CED_0 + AGES_AT + 2] = 0;
-    room[CED_0 + AGES_AT + 3] = 0;
-    room[CED_0 + AGES_AT + 4] = 0;
+    room[CED_0 + AGES_AT..CED_0 + AGES_AT + Ced::WORDS].fill(0);
     room[TIMING_0] = 1;
     room[TIMING_0 + COUNT_AT + 1] = 42;
-    room[TIMING_0 + AGES_AT] = 0;
-    room[TIMING_0 + AGES_AT + 1] = 0;
+    room[TIMING_0 + AGES_AT..TIMING_0 + AGES_AT + Timing::WORDS].fill(0);
 }
 
 // E01 in both slots of row 0, with ones and counts of 50 and 51 in slot 1: the first is the candidate, and the first answers.
@@ -841,31 +831,25 @@ fn satellite_twice(rt: HostRuntime, room: &mut [u8; ROOM]) {
     ask(rt, room, 1);
 }
 
+fn row_time(rt: HostRuntime, room: &mut [u8; ROOM], time: u32) {
+    numbers::write32(room, HEADER + TIME_AT, time);
+    heard(rt, print!(rt; "a row of {time}:"));
+    every(rt, room);
+}
+
 // A row's time of 604800, which is no time, and of 604770, the last start of a week.
 fn row_times(rt: HostRuntime, room: &mut [u8; ROOM]) {
     begin(rt, room);
-    room[HEADER + TIME_AT] = 0;
-    room[HEADER + TIME_AT + 1] = 9;
-    room[HEADER + TIME_AT + 2] = 58;
-    room[HEADER + TIME_AT + 3] = 128;
-    text(rt, b"a row of 604800:");
-    every(rt, room);
-    room[HEADER + TIME_AT + 3] = 98;
-    text(rt, b"a row of 604770:");
-    every(rt, room);
+    row_time(rt, room, 604800);
+    row_time(rt, room, 604770);
 }
 
 // A record without a satellite keeps its ages when one takes it, and so fits a COP of one more than the greatest.
 fn ages_of_none(rt: HostRuntime, room: &mut [u8; ROOM]) {
     fresh(rt, room, 1, 1, 0);
     text(rt, b"ages where no satellite is\n");
-    room[CED_0 + AGES_AT] = 1;
-    room[CED_0 + AGES_AT + 1] = 5;
-    room[CED_0 + AGES_AT + 2] = 3;
-    room[CED_0 + AGES_AT + 3] = 4;
-    room[CED_0 + AGES_AT + 4] = 2;
-    room[TIMING_0 + AGES_AT] = 7;
-    room[TIMING_0 + AGES_AT + 1] = 6;
+    room[CED_0 + AGES_AT..CED_0 + AGES_AT + Ced::WORDS].copy_from_slice(&[1, 5, 3, 4, 2]);
+    room[TIMING_0 + AGES_AT..TIMING_0 + AGES_AT + Timing::WORDS].copy_from_slice(&[7, 6]);
     word(rt, room, 3, 0, 5, WEEK, T);
     candidate(rt, room, 5, 0, 5, WEEK, T30);
     candidate(rt, room, 5, 0, 6, WEEK, T30);
@@ -965,6 +949,7 @@ fn main(rt: HostRuntime) {
     ask_calls(rt, &mut room);
     unknown_ages(rt, &mut room);
     every_value(rt, &mut room);
+    every_value_of_tags(rt, &mut room);
     every_value_asked(rt, &mut room);
     every_age(rt, &mut room);
     satellite_twice(rt, &mut room);

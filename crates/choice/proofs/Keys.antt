@@ -15,7 +15,7 @@ use Rattle.paper.specs.Feed.{unclaimed_key, own_key, key, last_greatest}
 use Rattle.paper.proofs.Bytes.{bytes_part}
 use Rattle.paper.proofs.Lengths.{last_greatest_lt}
 use Rattle.choice.specs.Last.{last_of}
-use Rattle.choice.specs.declared.Slot.TheVariants.{At}
+use Rattle.std.specs.Prelude.{Some}
 
 -- "the last of equals": a key that is no less takes the place of the best before it
 next_new : (k : ℕ → ℕ) (n : ℕ) → k (last_greatest k n) ≤ k n → last_greatest k (suc n) ≡ n
@@ -42,13 +42,13 @@ module _ (p : ℕ → Bool) (k : ℕ → ℕ) (m most : ℕ)
       go true e = omega (arith, yes-key i h e)
       go false e = omega (arith, no_key i h e)
 
-  pub last_is_greatest : (n j : ℕ) → n ≤ most → last_of p n ≡ At j → (last_greatest k n ≡ j) × ((j < n) × (k j ≡ m))
+  pub last_is_greatest : (n j : ℕ) → n ≤ most → last_of p n ≡ Some j → (last_greatest k n ≡ j) × ((j < n) × (k j ≡ m))
   unfolding last_of
   last_is_greatest zero j h e = let z : ◌≡◌ {A = ℕ} 0 1 = cc in absurd (omega arith)
   last_is_greatest (suc n) j h e = go (last_is_greatest n j (omega arith)) (p n) refl e
     where
-      go : (last_of p n ≡ At j → (last_greatest k n ≡ j) × ((j < n) × (k j ≡ m)))
-          → (b : Bool) → p n ≡ b → cond b (At n) (last_of p n) ≡ At j → (last_greatest k (suc n) ≡ j) × ((j < suc n) × (k j ≡ m))
+      go : (last_of p n ≡ Some j → (last_greatest k n ≡ j) × ((j < n) × (k j ≡ m)))
+          → (b : Bool) → p n ≡ b → cond b (Some n) (last_of p n) ≡ Some j → (last_greatest k (suc n) ≡ j) × ((j < suc n) × (k j ≡ m))
       go before true t f =
           let q : n ≡ j = cc in
           let g : k n ≡ m = yes-key n (omega arith) t in

@@ -12,8 +12,7 @@ use lib.Dec.{ltb}
 use Rattle.paper.specs.Record.{Family}
 use Rattle.choice.specs.Last.{last_of}
 use Rattle.choice.specs.Cases.{slot_age, has_age, is_older, oldest_age, last_oldest}
-use Rattle.choice.specs.declared.Slot.{Slot}
-use Rattle.choice.specs.declared.Slot.TheVariants.{At, Nowhere}
+use Rattle.std.specs.Prelude.{Option, Some, None}
 use Rattle.choice.proofs.Search.{last_none, last_says, last_is}
 
 module _ (f : Family) (row : List ℕ) where
@@ -32,7 +31,7 @@ module _ (f : Family) (row : List ℕ) where
   oldest_most (suc n) age most = omega (arith, oldest_most n age (λ i g. most i (omega arith)), most n (omega arith))
 
   -- one of them is the oldest
-  pub oldest_there : (n : ℕ) → 1 ≤ n → last_oldest f n row ≢ Nowhere
+  pub oldest_there : (n : ℕ) → 1 ≤ n → last_oldest f n row ≢ None
   oldest_there n h e =
       let age = oldest_age f n row in
       let below : (i : ℕ) → i < n → slot_age f row i < age = λ i g. omega (arith, none_older n i g, eqb-false (slot_age f row i) age (last_none _ n e i g)) in
@@ -56,9 +55,9 @@ module _ (f : Family) (row : List ℕ) where
       go false t (no d) = let far = ltb-false j i t in omega (arith, y.behind j (omega arith) l)
 
   -- the search for an older one before slot i, and what it found
-  module _ (n i : ℕ) (s : Slot) (y : Younger n i) (q : s ≡ last_of (is_older f i row) i) where
+  module _ (n i : ℕ) (s : Option ℕ) (y : Younger n i) (q : s ≡ last_of (is_older f i row) i) where
     -- one: all behind that are younger too
-    pub older_before : (o : ℕ) → s ≡ At o → Younger n o × (o < i)
+    pub older_before : (o : ℕ) → s ≡ Some o → Younger n o × (o < i)
     older_before o t =
         let found = last_says _ i o (sym q ∙ t) in
         let older = ltb-true (slot_age f row i) (slot_age f row o) found.has in
@@ -67,7 +66,7 @@ module _ (f : Family) (row : List ℕ) where
         (record { inside = omega (arith, found.inside, y.inside); behind = behind }, found.inside)
 
     -- none: it is the last of the oldest
-    pub none_before : s ≡ Nowhere → last_oldest f n row ≡ At i
+    pub none_before : s ≡ None → last_oldest f n row ≡ Some i
     none_before t =
         let passed : (j : ℕ) → j < i → slot_age f row j ≤ slot_age f row i = λ j g. ltb-false _ _ (last_none _ i (sym q ∙ t) j g) in
         let most : (j : ℕ) → j < n → slot_age f row j ≤ slot_age f row i = λ j l. no_older n i j y (passed j) l in

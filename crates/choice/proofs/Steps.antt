@@ -14,33 +14,32 @@ use Rattle.paper.proofs.Views.{record_fits}
 use Rattle.paper.proofs.Lengths.{chosen_lt}
 use Rattle.choice.specs.Last.{is_of, last_of}
 use Rattle.choice.specs.Cases.{has_satellite, last_own, last_unclaimed, last_oldest, three_cases}
-use Rattle.choice.specs.declared.Slot.{Slot}
-use Rattle.choice.specs.declared.Slot.TheVariants.{At, Nowhere}
+use Rattle.std.specs.Prelude.{Option, Some, None}
 use Rattle.choice.proofs.Search.{last_same}
 use Rattle.choice.proofs.Cases.{three_cases_lem}
 
 module _ (f : Family) (sat n : ℕ) (row : List ℕ) (b : Bytes row) (h : 1 ≤ n) where
-  is_chosen : (i : ℕ) → three_cases f sat n row ≡ At i → (i ≡ chosen f sat n row) × (i < n)
+  is_chosen : (i : ℕ) → three_cases f sat n row ≡ Some i → (i ≡ chosen f sat n row) × (i < n)
   is_chosen i e =
       let q : i ≡ chosen f sat n row = cc (three_cases_lem f sat n row b h) in
       (q, rw q (chosen_lt f sat n row h))
 
-  pub found_own : (i : ℕ) → last_own f sat n row ≡ At i → (i ≡ chosen f sat n row) × (i < n)
+  pub found_own : (i : ℕ) → last_own f sat n row ≡ Some i → (i ≡ chosen f sat n row) × (i < n)
   unfolding three_cases
   found_own i e = is_chosen i (rw e)
 
-  pub found_unclaimed : (i : ℕ) → last_own f sat n row ≡ Nowhere → last_unclaimed f n row ≡ At i → (i ≡ chosen f sat n row) × (i < n)
+  pub found_unclaimed : (i : ℕ) → last_own f sat n row ≡ None → last_unclaimed f n row ≡ Some i → (i ≡ chosen f sat n row) × (i < n)
   unfolding three_cases
   found_unclaimed i o e = is_chosen i (rw (o, e))
 
   pub found_oldest :
-      (i : ℕ) → last_own f sat n row ≡ Nowhere → last_unclaimed f n row ≡ Nowhere → last_oldest f n row ≡ At i → (i ≡ chosen f sat n row) × (i < n)
+      (i : ℕ) → last_own f sat n row ≡ None → last_unclaimed f n row ≡ None → last_oldest f n row ≡ Some i → (i ≡ chosen f sat n row) × (i < n)
   unfolding three_cases
   found_oldest i o u e = is_chosen i (rw (o, u, e))
 
 -- a search by the byte of a slot where the satellite stands is one by the record's satellite
 pub by_satellite :
-    (f : Family) (sat n at : ℕ) (row : List ℕ) (s found : Slot)
+    (f : Family) (sat n at : ℕ) (row : List ℕ) (s found : Option ℕ)
     → at ≡ base f → s ≡ last_of (is_of row (at + satellite_at) sat) n → s ≡ found → last_of (has_satellite f sat row) n ≡ found
 by_satellite f sat n at row s found a e t = last_same _ _ same n ∙ sym e ∙ t
   where

@@ -3,8 +3,7 @@ use Rattle.std.specs.Prelude.{ℕ, zero, suc, max, Bool, List, eqb, ltb}
 use Rattle.paper.specs.Record.{Family, satellite, ages_of, greatest}
 use Rattle.paper.specs.Room.{record_of}
 use Rattle.choice.specs.Last.{last_of}
-use Rattle.choice.specs.declared.Slot.{Slot}
-use Rattle.choice.specs.declared.Slot.TheVariants.{At, Nowhere}
+use Rattle.std.specs.Prelude.{Option, Some, None}
 
 -- slot i has a record of the satellite; of none where that is 0
 abbrev pub has_satellite : Family → ℕ → List ℕ → ℕ → Bool
@@ -28,22 +27,22 @@ oldest_age f zero row = 0
 oldest_age f (suc n) row = max (oldest_age f n row) (slot_age f row n)
 
 -- the last of this satellite's records
-abbrev pub last_own : Family → ℕ → ℕ → List ℕ → Slot
+abbrev pub last_own : Family → ℕ → ℕ → List ℕ → Option ℕ
 last_own f sat n row = last_of (has_satellite f sat row) n
 
 -- the last without a satellite
-abbrev pub last_unclaimed : Family → ℕ → List ℕ → Slot
+abbrev pub last_unclaimed : Family → ℕ → List ℕ → Option ℕ
 last_unclaimed f n row = last_of (has_satellite f 0 row) n
 
 -- the last of those whose greatest age is greatest
-abbrev pub last_oldest : Family → ℕ → List ℕ → Slot
+abbrev pub last_oldest : Family → ℕ → List ℕ → Option ℕ
 last_oldest f n row = last_of (has_age f (oldest_age f n row) row) n
 
 -- what was found, else the other
-abbrev pub or_else : Slot → Slot → Slot
-or_else (At i) other = At i
-or_else Nowhere other = other
+abbrev pub or_else : Option ℕ → Option ℕ → Option ℕ
+or_else (Some i) other = Some i
+or_else None other = other
 
 -- STORE 10.5: the slot chosen in a row of n
-unfoldable pub three_cases : Family → ℕ → ℕ → List ℕ → Slot
+unfoldable pub three_cases : Family → ℕ → ℕ → List ℕ → Option ℕ
 three_cases f sat n row = or_else (last_own f sat n row) (or_else (last_unclaimed f n row) (last_oldest f n row))

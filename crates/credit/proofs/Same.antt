@@ -1,82 +1,22 @@
--- Laws of the comparison: byte by byte, and the last byte by its top five bits. Assumes nothing.
+-- Laws of the comparison: whole bytes, and the last byte by its top five bits. Assumes nothing.
 use native.Mathlib.Omega.{arith}
-use native.Mathlib.Numerals.{add-one}
 use mathlib.Core.Path.{◌≡◌, refl, sym, ap, ◌∙◌}
 use mathlib.Core.Bool.{Bool, true, false, ◌&&◌}
 use mathlib.Core.List.{List, [], ◌∷◌, ◌++◌}
-use borrow.Author.Tests.{eq-eqb, ne_eqb}
 use lib.Dec.{eqb}
-use lib.ListN.{length, take, drop, get_or, drop_of_length-le}
-use lib.Seq.{drop-cons, length-take-le, get_or-take}
-use Prim.Native.Nat.{ℕ, ◌+◌, ◌-◌, ◌/◌, ◌≤◌, ◌<◌}
-use Rattle.paper.specs.Big.{be16, be32}
-use Rattle.paper.specs.Parts.{Bytes}
+use lib.Pointwise.{pointwise}
+use lib.ListN.{length, take, get_or}
+use lib.Seq.{length-take-le}
+use Prim.Native.Nat.{ℕ, ◌-◌, ◌/◌, ◌≤◌}
 use Rattle.paper.specs.Record.{Family, family_if, data_bytes, last_weight, same_list, same_bits}
-use Rattle.paper.proofs.Big.{be32_before}
-use Rattle.paper.proofs.Same.{list_true}
 
-one_more : (a b : List ℕ) (i : ℕ) → i < length a → i < length b
-    → same_list (drop i a) (drop i b) ≡ (eqb (get_or a i 0) (get_or b i 0) && same_list (drop (i + 1) a) (drop (i + 1) b))
+-- as the library compares slices
+pub pointwise_same : (x y : List ℕ) → pointwise eqb x y ≡ same_list x y
 unfolding same_list
-one_more a b i h k = rw (add-one, drop-cons a i 0 h, drop-cons b i 0 k)
-
-module _ (n i : ℕ) (a b : List ℕ) (na : n ≤ length a) (nb : n ≤ length b) (whole : Bool)
-    (e : whole ≡ same_list (drop i (take n a)) (drop i (take n b))) where
-  turn : i < n → whole ≡ (eqb (get_or a i 0) (get_or b i 0) && same_list (drop (i + 1) (take n a)) (drop (i + 1) (take n b)))
-  turn h =
-      let la : i < length (take n a) = omega (arith, length-take-le n a na) in
-      let lb : i < length (take n b) = omega (arith, length-take-le n b nb) in
-      rw (get_or-take n a i 0 h, get_or-take n b i 0 h) at (e ∙ one_more (take n a) (take n b) i la lb)
-
-  pub bytes_differ : i < n → (get_or a i 0 ≡ get_or b i 0 → ⊥) → false ≡ whole
-  bytes_differ h d = sym (rw (ne_eqb (get_or a i 0) (get_or b i 0) d) at (turn h))
-
-  pub bytes_go : i < n → get_or a i 0 ≡ get_or b i 0 → whole ≡ same_list (drop (i + 1) (take n a)) (drop (i + 1) (take n b))
-  bytes_go h q = rw (eq-eqb (get_or a i 0) (get_or b i 0) q) at (turn h)
-
-  pub bytes_done : n ≤ i → true ≡ whole
-  unfolding same_list
-  bytes_done h =
-      let za : drop i (take n a) ≡ [] = drop_of_length-le (take n a) {i = i} (omega (arith, length-take-le n a na)) in
-      let zb : drop i (take n b) ≡ [] = drop_of_length-le (take n b) {i = i} (omega (arith, length-take-le n b nb)) in
-      sym (e ∙ rw (za, zb))
-
--- four bytes that are one number
-four_same : (a b : List ℕ) (i : ℕ) → Bytes a → Bytes b → be32 a i ≡ be32 b i
-    → (get_or a i 0 ≡ get_or b i 0)
-    × ((get_or a (i + 1) 0 ≡ get_or b (i + 1) 0) × ((get_or a (i + 2) 0 ≡ get_or b (i + 2) 0) × (get_or a (i + 2 + 1) 0 ≡ get_or b (i + 2 + 1) 0)))
-unfolding be32 be16
-four_same a b i ba bb e =
-    let a0 = ba i in
-    let a1 = ba (i + 1) in
-    let a2 = ba (i + 2) in
-    let a3 = ba (i + 2 + 1) in
-    let b0 = bb i in
-    let b1 = bb (i + 1) in
-    let b2 = bb (i + 2) in
-    let b3 = bb (i + 2 + 1) in
-    (omega arith, (omega arith, (omega arith, omega arith)))
-
-module _ (n i : ℕ) (a b : List ℕ) (na : n ≤ length a) (nb : n ≤ length b) (h : i + 4 ≤ n) where
-  pub words_differ : (be32 a i ≡ be32 b i → ⊥) → false ≡ same_list (take n a) (take n b)
-  words_differ d = go (same_list (take n a) (take n b)) refl
-    where
-      go : (t : Bool) → same_list (take n a) (take n b) ≡ t → false ≡ t
-      go true e = absurd (d (be32_before n i a b (list_true (take n a) (take n b) e) h))
-      go false e = refl
-
-  pub words_go : Bytes a → Bytes b → (whole : Bool) → whole ≡ same_list (drop i (take n a)) (drop i (take n b)) → be32 a i ≡ be32 b i
-      → whole ≡ same_list (drop (i + 4) (take n a)) (drop (i + 4) (take n b))
-  words_go ba bb whole e q =
-      let s = four_same a b i ba bb q in
-      let z2 : i + 2 ≡ i + 1 + 1 = omega arith in
-      let z3 : i + 2 + 1 ≡ i + 1 + 1 + 1 = omega arith in
-      let z4 : i + 4 ≡ i + 1 + 1 + 1 + 1 = omega arith in
-      let w1 = bytes_go n i a b na nb whole e (omega arith) s.0 in
-      let w2 = bytes_go n (i + 1) a b na nb whole w1 (omega arith) s.1.0 in
-      let w3 = bytes_go n (i + 1 + 1) a b na nb whole w2 (omega arith) (rw z2 at s.1.1.0) in
-      let w4 = bytes_go n (i + 1 + 1 + 1) a b na nb whole w3 (omega arith) (rw z3 at s.1.1.1) in
-      rw z4 w4
+pointwise_same [] [] = refl
+pointwise_same [] (b ∷ ys) = refl
+pointwise_same (a ∷ xs) [] = refl
+pointwise_same (a ∷ xs) (b ∷ ys) = ap (λ (t : Bool). eqb a b && t) (pointwise_same xs ys)
 
 swap : (p q r : Bool) → (p && (q && r)) ≡ (q && (p && r))
 swap true q r = refl

@@ -6,12 +6,12 @@ use mathlib.Core.List.{List, ◌++◌}
 use borrow.Author.Tests.{eq-eqb, ne_eqb}
 use lib.Dec.{eqb}
 use lib.ListN.{length, get_or, take, drop}
-use Prim.Native.Nat.{ℕ, ◌+◌, ◌-◌, ◌≤◌, ◌<◌, min}
+use Prim.Native.Nat.{ℕ, ◌+◌, ◌-◌, ◌*◌, ◌≤◌, min}
 use Rattle.paper.specs.Parts.{part, on_part, on_parts, sum_parts}
 use Rattle.paper.specs.Record.{Family, data_bytes, satellite_at, data_at, size, satellite, count, most_count, data_of, same_bits, with_count}
 use Rattle.paper.specs.Room.{head_size, base, slot_size, row_size, in_slot, each_record}
 use Rattle.paper.specs.Tag.{matches, credited}
-use Rattle.paper.proofs.Parts.{Keeps, part_part, get_d_part, part_back_at, part_lent, on_part_by, on_part_none, on_part_drop, on_part_length, on_parts_length, parts_step, sum_step, sum_after}
+use Rattle.paper.proofs.Parts.{Keeps, part_part, get_d_part, part_back_at, part_lent, on_part_by, on_part_none, on_part_length, on_parts_length, on_parts_after, parts_turn, sum_turn}
 use Rattle.paper.proofs.Views.{slot_fits}
 use Rattle.paper.proofs.Lengths.{keeps_credited}
 use Rattle.credit.specs.Slot.{takes}
@@ -92,17 +92,13 @@ module _ (f : Family) (sat : ℕ) (given : List ℕ) (l : ℕ) (slot : List ℕ)
       (ap (λ (x : List ℕ). same_bits f x given) (sym data_lent) ∙ sym e ∙ t)
       (part_back_at (λ (r : List ℕ). with_count (min most_count (count r + l)) r) a s slot y p ∙ rw (ea, es))
 
--- a turn of a loop that changes part after part and adds up what each says of itself before its change
-pub turn : (g : List ℕ → List ℕ) (h : List ℕ → ℕ) (k left at : ℕ) (l m y : List ℕ) (all total r : ℕ)
-    → Keeps g k → 0 < left → at + k ≤ length l
-    → m ≡ on_parts g k left at l → all ≡ total + sum_parts h k left at l
-    → y ≡ g (take (at + k - at) (drop at l)) → r ≡ h (take (at + k - at) (drop at l))
-    → (m ≡ on_parts g k (left - 1) (at + k) (take at l ++ (y ++ drop (at + k - at) (drop at l))))
-    × (all ≡ total + r + sum_parts h k (left - 1) (at + k) (take at l ++ (y ++ drop (at + k - at) (drop at l))))
-turn g h k left at l m y all total r keeps go fits e q p t =
-    let behind = on_part_drop g k keeps at l fits (at + k) (omega arith) in
-    let same = sum_after h k (left - 1) (at + k) (at + k) l (on_part g at k l) (sym behind) (omega arith) in
-    rw (part_back_at g at k l y p) (
-      parts_step g k left at l m go e,
-      sum_step h k left at l all total r go q (t ∙ ap h (part_lent at k l)) ∙ ap (λ (n : ℕ). total + r + n) same,
-    )
+-- a turn of a loop that changes part after part and adds up what each says of itself before its change; `size` is k in the code's words
+pub turn : (g : List ℕ → List ℕ) (h : List ℕ → ℕ) (k i at from size : ℕ) (r l y : List ℕ) (total x : ℕ)
+    → Keeps g k → from + k ≤ length r → size ≡ k → from ≡ at + i * k → l ≡ on_parts g k i at r → total ≡ sum_parts h k i at r
+    → y ≡ g (take (from + size - from) (drop from l)) → x ≡ h (take (from + size - from) (drop from l))
+    → (take from l ++ (y ++ drop (from + size - from) (drop from l)) ≡ on_parts g k (i + 1) at r) × (total + x ≡ sum_parts h k (i + 1) at r)
+turn g h k i at from size r l y total x keeps fits es p e q f t =
+    let same : part (at + i * k) k (on_parts g k i at r) ≡ part (at + i * k) k r =
+    on_parts_after g k keeps i at (at + i * k) k r (omega (arith, p)) (omega arith) in
+    let lent : take (from + size - from) (drop from l) ≡ part (at + i * k) k r = rw es (part_lent from k l ∙ rw (p, e, same)) in
+    (rw es (parts_turn g k i at from r l y p e (rw es at f)), sum_turn h k i at r total x q (t ∙ ap h lent))

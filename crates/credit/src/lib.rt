@@ -2,44 +2,22 @@
 // The given data takes the candidate's place in the comparison: the two agree in all bits that are compared.
 #![tactic(auto)]
 
-ghost use Rattle.std.specs.Prelude.{◌≡◌, ◌+◌, ◌≤◌, min, length, take, drop};
+ghost use Rattle.std.specs.Prelude.{◌≡◌, ◌+◌, ◌≤◌, min, length, take};
 ghost use Rattle.paper.specs.Record.{family_if, data_bytes, ages_at, count, most_count, same_list, same_bits, with_count};
 ghost use Rattle.paper.specs.Room.{most_slots, slot_size, row_size, in_slot, each_record, every_record, how_many, how_many_in};
 ghost use Rattle.paper.specs.Store.{InRange};
 ghost use Rattle.paper.specs.Tag.{matches, credited};
 ghost use Rattle.credit.specs.Slot.{takes};
 
-use layout::{HEADER, ROW_HEAD, SLOT};
-use records::{COUNT_AT, LAST_WEIGHT, MOST_COUNT, SATELLITE_AT};
+use layout::{HEADER, SLOT};
+use records::{COUNT_AT, LAST_WEIGHT, SATELLITE_AT};
 
-// Whether the bytes from `from` to n are the same.
-fn same_bytes(a: &[u8], b: &[u8], from: usize, n: usize) -> bool
-    requires { (from ≤ n) × ((n ≤ length a.now) × (n ≤ length b.now)) }
-    ensures { result ≡ same_list (drop from (take n a.now)) (drop from (take n b.now)) }
-{
-    let mut i = from;
-    while i < n {
-        if a[i] != b[i] {
-            return false;
-        }
-        i += 1;
-    }
-    true
-}
-
-// Whether the first n bytes are the same: four at a time, and then those that remain.
+// Whether the first n bytes are the same.
 fn same_first(a: &[u8], b: &[u8], n: usize) -> bool
     requires { (n ≤ length a.now) × (n ≤ length b.now) }
     ensures { result ≡ same_list (take n a.now) (take n b.now) }
 {
-    let mut i: usize = 0;
-    while n - i >= 4 {
-        if numbers::read32(a, i) != numbers::read32(b, i) {
-            return false;
-        }
-        i += 4;
-    }
-    same_bytes(a, b, i, n)
+    a[..n] == b[..n]
 }
 
 // Whether two data agree in the 549 or 141 bits of their family.
@@ -58,11 +36,7 @@ pub fn same_bits(a: &[u8], b: &[u8], timing: bool) -> bool
 fn held(count: u16, added: u8) -> u16
     ensures { result ≡ min most_count (count + added) }
 {
-    let more = numbers::as_u16(added);
-    if count > MOST_COUNT - more {
-        return MOST_COUNT;
-    }
-    count + more
+    count.saturating_add(u16::from(added))
 }
 
 // A record with the length added to its count.
@@ -74,7 +48,7 @@ fn add_length(rec: &mut [u8], added: u8)
     numbers::write16(rec, COUNT_AT, sum);
 }
 
-// A slot's record of the family takes the tag if it has the satellite and the bits: 1 if it took it, else 0.
+// A slot's record of the family takes the tag if it has the satellite and the bits. How many took it, 1 or 0, for the total.
 fn credit_slot(slot: &mut [u8], timing: bool, sat: u8, given: &[u8], added: u8) -> u32
     requires { (length slot.old ≡ slot_size) × (length given.now ≡ data_bytes (family_if timing)) }
     ensures { (slot.new
@@ -95,7 +69,7 @@ fn credit_slot(slot: &mut [u8], timing: bool, sat: u8, given: &[u8], added: u8) 
 }
 
 // The records of a family in a row.
-#[tactic(auto, unfolding(paper::specs::Room::each_record, paper::specs::Room::how_many))]
+#[tactic(auto, unfolding(paper::specs::Parts::on_parts, paper::specs::Parts::sum_parts, paper::specs::Room::each_record, paper::specs::Room::how_many))]
 fn credit_row(row: &mut [u8], n: usize, timing: bool, sat: u8, given: &[u8], added: u8) -> u32
     requires { (n ≤ most_slots) × ((row_size n ≤ length row.old) × (length given.now ≡ data_bytes (family_if timing))) }
     ensures { (row.new
@@ -103,19 +77,15 @@ fn credit_row(row: &mut [u8], n: usize, timing: bool, sat: u8, given: &[u8], add
         × ((result ≡ how_many (family_if timing) n (matches (family_if timing) sat given.now) row.old) × (result ≤ n)) }
 {
     let mut total: u32 = 0;
-    let mut at = ROW_HEAD;
-    let mut left = n;
-    while left > 0 {
-        let e = at + SLOT;
-        total += credit_slot(&mut row[at..e], timing, sat, given, added);
-        at = e;
-        left -= 1;
+    for i in 0..n {
+        let at = rows::slot_start(i);
+        total += credit_slot(&mut row[at..at + SLOT], timing, sat, given, added);
     }
     total
 }
 
 // The records of a family in all rows: how many took the tag.
-#[tactic(auto, unfolding(paper::specs::Room::every_record, paper::specs::Room::how_many_in))]
+#[tactic(auto, unfolding(paper::specs::Parts::on_parts, paper::specs::Parts::sum_parts, paper::specs::Room::every_record, paper::specs::Room::how_many_in))]
 pub fn credit_rows(room: &mut [u8], timing: bool, sat: u8, given: &[u8], added: u8) -> u32
     requires { InRange room.old × (length given.now ≡ data_bytes (family_if timing)) }
     ensures { (room.new
@@ -123,15 +93,11 @@ pub fn credit_rows(room: &mut [u8], timing: bool, sat: u8, given: &[u8], added: 
         × (result ≡ how_many_in (family_if timing) (matches (family_if timing) sat given.now) room.old) }
 {
     let n = rows::slots(room);
-    let width = rows::row_size(n);
+    let row = rows::row_size(n);
     let mut total: u32 = 0;
-    let mut at = HEADER;
-    let mut left = rows::depth(room);
-    while left > 0 {
-        let e = at + width;
-        total += credit_row(&mut room[at..e], n, timing, sat, given, added);
-        at = e;
-        left -= 1;
+    for r in 0..rows::depth(room) {
+        let at = HEADER + r * row;
+        total += credit_row(&mut room[at..at + row], n, timing, sat, given, added);
     }
     total
 }

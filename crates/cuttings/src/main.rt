@@ -72,6 +72,7 @@ fn further(at: usize, step: usize, end: usize) -> usize
 }
 
 // A part offered once, with an output of at most `most` bytes behind the lines that are there.
+// kept: state and room are two parameters, here and below, as `intake` is lent them
 fn offer(
     reader: &mut [u8; READER],
     room: &mut [u8],
@@ -126,15 +127,13 @@ fn feed(
 {
     let mut at = start;
     let mut from = 0;
-    let mut turns = bytes.len();
-    while turns > 0 {
+    for _ in 0..bytes.len() {
         if from >= bytes.len() {
             return at;
         }
         let went = offer_twice(reader, room, &bytes[from..], got, at, most);
         from += went.took;
         at = went.at;
-        turns -= 1;
     }
     at
 }
@@ -152,8 +151,7 @@ fn feed_all(
     let mut at = 0;
     let mut from = 0;
     let mut to = further(0, way.first, input.len());
-    let mut turns = input.len() + 1;
-    while turns > 0 {
+    for _ in 0..=input.len() {
         if from >= input.len() {
             return at;
         }
@@ -162,7 +160,6 @@ fn feed_all(
         at = empty.at;
         from = to;
         to = further(to, way.step, input.len());
-        turns -= 1;
     }
     feed(reader, room, &input[from..], got, at, way.most)
 }
@@ -192,54 +189,24 @@ fn read_in(input: &[u8], way: Way, got: &mut [u8]) -> Came
     }
 }
 
-fn same_bytes(a: &[u8], b: &[u8]) -> bool {
-    if a.len() != b.len() {
-        return false;
-    }
-    let mut i = 0;
-    while i < a.len() {
-        if i < b.len() {
-            if a[i] != b[i] {
-                return false;
-            }
-        }
-        i += 1;
-    }
-    true
-}
-
 // Whether an input read in one way gives these lines and this sum.
 fn same(input: &[u8], way: Way, lines: &[u8], sum: u32) -> bool {
     let mut got = [0u8; MOST_SAID];
     let came = read_in(input, way, &mut got);
     let at = came.at;
-    if came.sum != sum {
-        return false;
-    }
-    same_bytes(&got[..at], lines)
-}
-
-fn once(holds: bool) -> usize
-    ensures { result ≤ 1 }
-{
-    if holds {
-        return 1;
-    }
-    0
+    came.sum == sum && &got[..at] == lines
 }
 
 // How many of the cuttings into two give the same.
 fn cuttings(input: &[u8], lines: &[u8], sum: u32) -> usize {
     let mut count = 0;
-    let mut first = 0;
-    while first <= input.len() {
+    for first in 0..=input.len() {
         let way = Way {
             first,
             step: MOST_INPUT,
             most: LONG,
         };
-        count += once(same(input, way, lines, sum));
-        first += 1;
+        count += usize::from(same(input, way, lines, sum));
     }
     count
 }
@@ -313,9 +280,9 @@ fn try_part(
     let heard = intake::part(reader, room, bytes, out, false);
     let said = heard.said;
     text(rt, b"part");
-    number(rt, heard.number as u64);
+    number(rt, u64::from(heard.number));
     number(rt, heard.took as u64);
-    number(rt, adler::adler32(reader) as u64);
+    number(rt, u64::from(adler::adler32(reader)));
     text(rt, b"\n");
     text(rt, &out[..said]);
 }
@@ -333,9 +300,9 @@ fn try_end(rt: HostRuntime, reader: &mut [u8; READER], room: &[u8], out: &mut [u
     let closed = intake::end(reader, room, out, false);
     let said = closed.said;
     text(rt, b"end");
-    number(rt, closed.number as u64);
+    number(rt, u64::from(closed.number));
     taken(rt, closed.taken);
-    number(rt, adler::adler32(reader) as u64);
+    number(rt, u64::from(adler::adler32(reader)));
     text(rt, b"\n");
     text(rt, &out[..said]);
 }
@@ -350,7 +317,7 @@ fn step(
     bytes: &[u8],
 ) {
     let mut out = [0u8; MOST_STEP];
-    let limit = numbers::as_usize(most);
+    let limit = usize::from(most);
     if ends != 0 {
         try_end(rt, reader, room, &mut out[..limit]);
         return;
@@ -365,7 +332,7 @@ fn next_step(rt: HostRuntime, reader: &mut [u8; READER], room: &mut [u8]) -> boo
     if !filled(rt, &mut head) {
         return false;
     }
-    let n = numbers::as_usize(head[2]);
+    let n = usize::from(head[2]);
     if !filled(rt, &mut bytes[..n]) {
         return false;
     }
@@ -375,13 +342,11 @@ fn next_step(rt: HostRuntime, reader: &mut [u8; READER], room: &mut [u8]) -> boo
 
 // So many steps: whether they are there.
 fn steps(rt: HostRuntime, reader: &mut [u8; READER], room: &mut [u8], count: u8) -> bool {
-    let mut left = count;
-    while left > 0 {
+    for _ in 0..count {
         if !next_step(rt, reader, room) {
             let _ = eprintln!(rt; "cannot read standard input");
             return false;
         }
-        left -= 1;
     }
     true
 }
@@ -407,7 +372,7 @@ fn next(rt: HostRuntime) -> bool {
     if !filled(rt, &mut head) {
         return false;
     }
-    let n = numbers::as_usize(head[0]) * 256 + numbers::as_usize(head[1]);
+    let n = usize::from(u16::from_be_bytes(head));
     if n == TRIAL {
         return trial(rt);
     }
@@ -419,11 +384,9 @@ fn next(rt: HostRuntime) -> bool {
 }
 
 fn main(rt: HostRuntime) {
-    let mut left: u64 = 1000;
-    while left > 0 {
+    for _ in 0..1000 {
         if !next(rt) {
             return;
         }
-        left -= 1;
     }
 }

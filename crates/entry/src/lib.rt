@@ -9,68 +9,68 @@ ghost use Rattle.entry.specs.Mack.{mack_answer};
 
 use gst::Gst;
 use limits::WORD_BYTES;
-use refusals::{Refusal, Reply};
+use refusals::Refusal;
 use svn::Svn;
 
 // fresh: 1, 2
 #[tactic(auto, unfolding(paper::specs::Answer::fresh_number))]
-pub fn fresh_entry(room: &[u8], d: u8, n: u8, rule: u8) -> Reply
+pub fn fresh_entry(room: &[u8], d: u8, n: u8, rule: u8) -> Result<(), Refusal>
     ensures { reply_answer result ≡ fresh_answer d n rule room.now }
 {
     if !limits::fresh_allowed(d, n, rule) {
-        return Reply::Refused(Refusal::Sizes);
+        return Err(Refusal::Sizes);
     }
-    let size = rows::room_size(numbers::as_usize(d), numbers::as_usize(n));
+    let size = rows::room_size(usize::from(d), usize::from(n));
     if room.len() < size {
-        return Reply::Refused(Refusal::TooShort);
+        return Err(Refusal::TooShort);
     }
-    Reply::Done
+    Ok(())
 }
 
 // word: 3, 4, 5, 8, 9, 15
 #[tactic(auto, unfolding(paper::specs::Answer::feed_number))]
-pub fn feed_entry(room: &[u8], word: &[u8], svn: Svn, gst: Gst, band: u8) -> Reply
+pub fn feed_entry(room: &[u8], word: &[u8], svn: Svn, gst: Gst, band: u8) -> Result<(), Refusal>
     ensures { reply_answer result ≡ feed_answer word.now svn.0 gst.wn.0 gst.tow.0 band room.now }
 {
     if !store::is_store(room) {
-        return Reply::Refused(Refusal::NotAStore);
+        return Err(Refusal::NotAStore);
     }
     if !svn.is_satellite() {
-        return Reply::Refused(Refusal::NoSatellite);
+        return Err(Refusal::NoSatellite);
     }
     let time = gst.tow.0;
     if gst::tow_too_large(time) {
-        return Reply::Refused(Refusal::TowTooLarge);
+        return Err(Refusal::TowTooLarge);
     }
     if word.len() != WORD_BYTES {
-        return Reply::Refused(Refusal::NotAllowed);
+        return Err(Refusal::NotAllowed);
     }
     if limits::band_unknown(band) {
-        return Reply::Refused(Refusal::UnknownCode);
+        return Err(Refusal::UnknownCode);
     }
     if ageing::comes_earlier(room, gst) {
-        return Reply::Refused(Refusal::Earlier);
+        return Err(Refusal::Earlier);
     }
-    Reply::Done
+    Ok(())
 }
 
 // 3, 4, 5, 6: what a tag and the candidate test first
 #[tactic(auto, unfolding(crate::specs::Mack::mack_number))]
-pub fn mack_entry(room: &[u8], svn: Svn, gst: Gst) -> Reply
+pub fn mack_entry(room: &[u8], svn: Svn, gst: Gst) -> Result<(), Refusal>
     ensures { reply_answer result ≡ mack_answer svn.0 gst.tow.0 room.now }
 {
     if !store::is_store(room) {
-        return Reply::Refused(Refusal::NotAStore);
+        return Err(Refusal::NotAStore);
     }
     if !svn.is_satellite() {
-        return Reply::Refused(Refusal::NoSatellite);
+        return Err(Refusal::NoSatellite);
     }
     let time = gst.tow.0;
     if gst::tow_too_large(time) {
-        return Reply::Refused(Refusal::TowTooLarge);
+        return Err(Refusal::TowTooLarge);
     }
     if gst::not_a_start(time) {
-        return Reply::Refused(Refusal::NotAStart);
+        return Err(Refusal::NotAStart);
     }
-    Reply::Done
+    Ok(())
 }

@@ -10,10 +10,11 @@ use Rattle.paper.specs.Word.{fed_record}
 use Rattle.paper.specs.Feed.{chosen, fed_family}
 use Rattle.paper.proofs.Parts.{part_back_at}
 
-pub fed_back : (f : Family) (n sat band slot a : ℕ) (word row y : List ℕ) → slot ≡ chosen f sat n row → a ≡ record_at f slot
-    → y ≡ fed_record f sat band word (take (a + size f - a) (drop a row))
-    → take a row ++ (y ++ drop (a + size f - a) (drop a row)) ≡ fed_family f n sat band word row
+pub fed_back : (f : Family) (n sat band slot a w : ℕ) (word row y : List ℕ) → slot ≡ chosen f sat n row → a ≡ record_at f slot → w ≡ size f
+    → y ≡ fed_record f sat band word (take (a + w - a) (drop a row))
+    → take a row ++ (y ++ drop (a + w - a) (drop a row)) ≡ fed_family f n sat band word row
 unfolding fed_family
-fed_back f n sat band slot a word row y e p q =
-    part_back_at (fed_record f sat band word) a (size f) row y q
-    ∙ ap (λ (at : ℕ). on_part (fed_record f sat band word) at (size f) row) (p ∙ ap (record_at f) e)
+fed_back f n sat band slot a w word row y e p s q =
+    part_back_at (fed_record f sat band word) a w row y q
+    ∙ ap (λ (at : ℕ). on_part (fed_record f sat band word) at w row) (p ∙ ap (record_at f) e)
+    ∙ ap (λ (k : ℕ). on_part (fed_record f sat band word) (record_at f (chosen f sat n row)) k row) s

@@ -1,3 +1,2 @@
 pub mod Fed
-pub mod Starts
 pub mod Determined

@@ -3,6 +3,14 @@ use mathlib.Core.Path.{◌≡◌, sym, ◌∙◌}
 use borrow.Fn.Kinds.{res_t, ended_of, Dens}
 use denote.Triple.Clauses.{AtExit}
 use contract.Lifetimes.{Lfts}
+use Rattle.ffi.proofs.TakenFromResultU32Refusal.from.Reads as taken_reads
+use Rattle.ffi.proofs.TakenFromResultU32Refusal.from.Kinds as taken_kinds
+use Rattle.ffi.proofs.MomentFromResultGstRefusal.from.Reads as moment_reads
+use Rattle.ffi.proofs.MomentFromResultGstRefusal.from.Kinds as moment_kinds
+use Rattle.ffi.proofs.MarkFromResultBoolRefusal.from.Reads as mark_reads
+use Rattle.ffi.proofs.MarkFromResultBoolRefusal.from.Kinds as mark_kinds
+use Rattle.ffi.proofs.SpanFromResultI32Refusal.from.Reads as span_reads
+use Rattle.ffi.proofs.SpanFromResultI32Refusal.from.Kinds as span_kinds
 use Rattle.ffi.proofs.dawnstook_room_size.Reads as dawnstook_room_size_reads
 use Rattle.ffi.proofs.dawnstook_room_size.Kinds as dawnstook_room_size_kinds
 use Rattle.ffi.proofs.dawnstook_fresh.Reads as dawnstook_fresh_reads
@@ -133,3 +141,27 @@ pub dawnstook_subframes_difference_determined :
     (e e' : AtExit (ended_of 0 dawnstook_subframes_difference_kinds.ps dawnstook_subframes_difference_kinds.r) κs)
     → dawnstook_subframes_difference_reads.Post κs a r e → dawnstook_subframes_difference_reads.Post κs a r' e' → r ≡ r'
 dawnstook_subframes_difference_determined κs a r r' e e' p q = p ∙ sym q
+
+pub taken_determined :
+    (κs : Lfts 0) (a : Dens κs taken_kinds.ps) (r r' : (res_t taken_kinds.r κs).Denot)
+    (e e' : AtExit (ended_of 0 taken_kinds.ps taken_kinds.r) κs)
+    → taken_reads.Post κs a r e → taken_reads.Post κs a r' e' → r ≡ r'
+taken_determined κs a r r' e e' p q = p ∙ sym q
+
+pub moment_determined :
+    (κs : Lfts 0) (a : Dens κs moment_kinds.ps) (r r' : (res_t moment_kinds.r κs).Denot)
+    (e e' : AtExit (ended_of 0 moment_kinds.ps moment_kinds.r) κs)
+    → moment_reads.Post κs a r e → moment_reads.Post κs a r' e' → r ≡ r'
+moment_determined κs a r r' e e' p q = p ∙ sym q
+
+pub mark_determined :
+    (κs : Lfts 0) (a : Dens κs mark_kinds.ps) (r r' : (res_t mark_kinds.r κs).Denot)
+    (e e' : AtExit (ended_of 0 mark_kinds.ps mark_kinds.r) κs)
+    → mark_reads.Post κs a r e → mark_reads.Post κs a r' e' → r ≡ r'
+mark_determined κs a r r' e e' p q = p ∙ sym q
+
+pub span_determined :
+    (κs : Lfts 0) (a : Dens κs span_kinds.ps) (r r' : (res_t span_kinds.r κs).Denot)
+    (e e' : AtExit (ended_of 0 span_kinds.ps span_kinds.r) κs)
+    → span_reads.Post κs a r e → span_reads.Post κs a r' e' → r ≡ r'
+span_determined κs a r r' e e' p q = p ∙ sym q

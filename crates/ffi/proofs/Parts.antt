@@ -7,7 +7,7 @@ use mathlib.Core.List.{List, [], ◌∷◌}
 use lib.ListN.{length}
 use lib.Dec.{eqb, eqb-suc-zero}
 use Prim.Native.Nat.{ℕ, zero, suc, ◌+◌, ◌≤◌}
-use Rattle.paper.specs.Number.{Answer, done, refused}
+use Rattle.paper.specs.Number.{done, refused}
 use Rattle.paper.specs.Parts.{part}
 use Rattle.paper.specs.Record.{Family, size, data_at, data_bytes}
 use Rattle.paper.specs.Tag.{family_of, cop_allowed, kind_known}
@@ -17,8 +17,7 @@ use Rattle.refusals.specs.Reply.{refusal_number}
 use Rattle.refusals.specs.declared.Refusal.{Refusal}
 use Rattle.refusals.proofs.Answers.{above_zero, refused_number, done_number}
 use Rattle.tags.specs.Candidates.{Placed}
-use Rattle.tags.specs.declared.Candidate.{Candidate}
-use Rattle.tags.specs.declared.Candidate.TheVariants.{At, Refused}
+use Rattle.std.specs.Prelude.{Result, Ok, Err}
 use Rattle.tags.proofs.Shown.{placed_as, shown_at, shown_refused}
 use Rattle.ask.specs.Answered.{ask_place}
 use Rattle.ask.proofs.Tells.{answer_there, no_data}
@@ -37,25 +36,25 @@ no_offset : (k x : ℕ) → 1 ≤ k → 0 ≡ cond (eqb k 0) x 0
 no_offset zero x h = absurd (omega arith)
 no_offset (suc k) x h = rw (eqb-suc-zero k)
 
-module _ (sat kind cop w t : ℕ) (room : List ℕ) (r : Candidate) (p : Placed r (cop_allowed cop) (kind_known kind) sat kind cop w t room) where
+module _ (sat kind cop w t : ℕ) (room : List ℕ) (r : Result ℕ Refusal) (p : Placed r (cop_allowed cop) (kind_known kind) sat kind cop w t room) where
   abbrev Shows : Shown → Type 0
   Shows s =
       (s
       ≡ shown_of (candidate_answer sat kind cop w t room) (candidate_offset sat kind cop w t room) (length (candidate_data sat kind cop w t room)))
       × (part s.offset s.bytes room ≡ candidate_data sat kind cop w t room)
 
-  pub shown_part : (x : ℕ) → r ≡ At x → (o b : ℕ) → o ≡ data_at (family_of kind) → b ≡ data_bytes (family_of kind)
+  pub shown_part : (x : ℕ) → r ≡ Ok x → (o b : ℕ) → o ≡ data_at (family_of kind) → b ≡ data_bytes (family_of kind)
       → Shows (record { number = 0; offset = x + o; bytes = b })
   unfolding candidate_offset
   shown_part x q o b eo eb =
-      let there = (placed_as (cop_allowed cop) (kind_known kind) sat kind cop w t room r p (At x) q).1 in
+      let there = (placed_as (cop_allowed cop) (kind_known kind) sat kind cop w t room r p (Ok x) q).1 in
       let shown = shown_at sat kind cop w t room r p x q in
       let none : candidate_number sat kind cop w t room ≡ 0 = done_number _ [] [] shown.0 in
       let long : data_bytes (family_of kind) ≡ length (candidate_data sat kind cop w t room) =
       sym (data_length (family_of kind) x room there.inside) ∙ ap length shown.1 in
       (rw (none, eo, eb, ← long, ← there.place), rw (eo, eb) shown.1)
 
-  pub shown_nothing : (why : Refusal) → r ≡ Refused why → (n : ℕ) → n ≡ refusal_number why
+  pub shown_nothing : (why : Refusal) → r ≡ Err why → (n : ℕ) → n ≡ refusal_number why
       → Shows (record { number = n; offset = 0; bytes = 0 })
   unfolding candidate_offset
   shown_nothing why q n en =

@@ -5,7 +5,7 @@
 #![tactic(auto)]
 
 ghost use Rattle.std.specs.Prelude.{◌≡◌, cond, length};
-ghost use Rattle.paper.specs.Number.{refused, number};
+ghost use Rattle.paper.specs.Number.{number};
 ghost use Rattle.paper.specs.Parts.{part};
 ghost use Rattle.paper.specs.Record.{CED, Timing, family_if};
 ghost use Rattle.paper.specs.Room.{room_size};
@@ -14,17 +14,15 @@ ghost use Rattle.paper.specs.Answer.{fresh_answer, fresh_room, feed_answer, feed
 ghost use Rattle.paper.specs.Answer.{candidate_answer, candidate_data, ask_answer, ask_data, reset_answer, reset_room};
 ghost use Rattle.paper.specs.Time.{add_seconds, add_subframes, subframe_of, is_subframe, difference};
 ghost use Rattle.gst.specs.Answer.{time_answer, start_answer, apart_answer};
-ghost use Rattle.refusals.specs.Reply.{reply_answer, refusal_number};
+ghost use Rattle.refusals.specs.Reply.{reply_answer};
 ghost use Rattle.tags.specs.Candidates.{tagged_answer};
 ghost use Rattle.ffi.specs.Handed.{taken_of, shown_of, told_of, moment_of, mark_of, span_of};
 ghost use Rattle.ffi.specs.Offset.{candidate_offset, ask_offset};
 
-use ask::Answered;
-use gst::{Apart, Gst, NewTime, Start, Tow, Wn};
+use gst::Gst;
 use limits::TIMING_KIND;
-use refusals::{Refusal, Reply};
+use refusals::Refusal;
 use svn::Svn;
-use tags::{Candidate, Tagged};
 
 // What a tag came to: its number, and how many records took it.
 #[repr(C)]
@@ -80,24 +78,81 @@ pub struct Span {
     pub subframes: i32,
 }
 
-fn reply_number(reply: Reply) -> u8
+// kept a function: a From of Result for u8 would name no type of this crate
+fn reply_number(reply: Result<(), Refusal>) -> u8
     ensures { result ≡ number (reply_answer reply) }
 {
     match reply {
-        Reply::Done => 0,
-        Reply::Refused(why) => refusals::number(why),
+        Ok(()) => 0,
+        Err(why) => u8::from(why),
     }
 }
 
-fn of_tag(tagged: Tagged) -> Taken
-    ensures { result ≡ taken_of (tagged_answer tagged) }
-{
-    match tagged {
-        Tagged::Taken(records) => Taken { number: 0, records },
-        Tagged::Refused(why) => Taken {
-            number: refusals::number(why),
-            records: 0,
-        },
+// Beside a refusal the values are 0 (STORE 14.3), here and below.
+impl From<Result<u32, Refusal>> for Taken {
+    ghost from_gives = { λ tagged taken. taken ≡ taken_of (tagged_answer tagged) };
+
+    fn from(tagged: Result<u32, Refusal>) -> Taken {
+        match tagged {
+            Ok(records) => Taken { number: 0, records },
+            Err(why) => Taken {
+                number: u8::from(why),
+                records: 0,
+            },
+        }
+    }
+}
+
+impl From<Result<Gst, Refusal>> for Moment {
+    ghost from_gives = { λ time moment. moment ≡ moment_of (time_answer time) };
+
+    fn from(time: Result<Gst, Refusal>) -> Moment {
+        match time {
+            Ok(gst) => Moment {
+                number: 0,
+                week: gst.wn.0,
+                time: gst.tow.0,
+            },
+            Err(why) => Moment {
+                number: u8::from(why),
+                week: 0,
+                time: 0,
+            },
+        }
+    }
+}
+
+impl From<Result<bool, Refusal>> for Mark {
+    ghost from_gives = { λ start mark. mark ≡ mark_of (start_answer start) };
+
+    fn from(start: Result<bool, Refusal>) -> Mark {
+        match start {
+            Ok(yes) => Mark {
+                number: 0,
+                start: u8::from(yes),
+            },
+            Err(why) => Mark {
+                number: u8::from(why),
+                start: 0,
+            },
+        }
+    }
+}
+
+impl From<Result<i32, Refusal>> for Span {
+    ghost from_gives = { λ apart span. span ≡ span_of (apart_answer apart) };
+
+    fn from(apart: Result<i32, Refusal>) -> Span {
+        match apart {
+            Ok(subframes) => Span {
+                number: 0,
+                subframes,
+            },
+            Err(why) => Span {
+                number: u8::from(why),
+                subframes: 0,
+            },
+        }
     }
 }
 
@@ -109,7 +164,7 @@ pub extern "C" fn dawnstook_room_size(d: u8, n: u8) -> usize
     if !limits::sizes_allowed(d, n) {
         return 0;
     }
-    rows::room_size(numbers::as_usize(d), numbers::as_usize(n))
+    rows::room_size(usize::from(d), usize::from(n))
 }
 
 // A fresh store of d rows and n slots at the start of the room, under an ageing rule.
@@ -134,10 +189,7 @@ pub extern "C" fn dawnstook_feed(
     ensures { (result ≡ number (feed_answer word.now sat week time band room.old))
         × (room.new ≡ feed_room word.now sat week time band room.old) }
 {
-    let gst = Gst {
-        wn: Wn(week),
-        tow: Tow(time),
-    };
+    let gst = Gst::new(week, time);
     reply_number(navmessage::feed(room, word, Svn(sat), gst, band))
 }
 
@@ -160,11 +212,8 @@ pub extern "C" fn dawnstook_tag(
     ensures room_after { room.new
         ≡ tag_room sat kind cop bits status week time given.now verdict room.old }
 {
-    let mack = Gst {
-        wn: Wn(week),
-        tow: Tow(time),
-    };
-    of_tag(navmessage::tag(
+    let mack = Gst::new(week, time);
+    Taken::from(navmessage::tag(
         room,
         Svn(sat),
         kind,
@@ -194,24 +243,22 @@ pub extern "C" fn dawnstook_candidate(
         (length (candidate_data sat kind cop week time room.now)) }
     ensures room_value { part result.offset result.bytes room.now ≡ candidate_data sat kind cop week time room.now }
 {
-    let mack = Gst {
-        wn: Wn(week),
-        tow: Tow(time),
-    };
+    let mack = Gst::new(week, time);
     match tags::candidate_shown(room, Svn(sat), kind, cop, mack) {
-        Candidate::At(at) => Shown {
+        Ok(at) => Shown {
             number: 0,
             offset: at + records::data_at(kind == TIMING_KIND),
             bytes: records::bytes_of(kind == TIMING_KIND),
         },
-        Candidate::Refused(why) => Shown {
-            number: refusals::number(why),
+        Err(why) => Shown {
+            number: u8::from(why),
             offset: 0,
             bytes: 0,
         },
     }
 }
 
+#[tactic(auto, using(crate::proofs::Parts::told_part))]
 fn tell(room: &[u8], timing: bool, sat: u8) -> Told
     ensures value { result
         ≡ told_of (ask_answer (family_if timing) sat room.now)
@@ -220,16 +267,16 @@ fn tell(room: &[u8], timing: bool, sat: u8) -> Told
     ensures room_value { part result.offset result.bytes room.now ≡ ask_data (family_if timing) sat room.now }
 {
     match ask::ask(room, timing, Svn(sat)) {
-        Answered::Record(at, authbits, gst) => Told {
+        Ok(answer) => Told {
             number: 0,
-            authbits,
-            week: gst.wn.0,
-            time: gst.tow.0,
-            offset: at + records::data_at(timing),
+            authbits: answer.authbits,
+            week: answer.gst.wn.0,
+            time: answer.gst.tow.0,
+            offset: answer.at + records::data_at(timing),
             bytes: records::bytes_of(timing),
         },
-        Answered::Refused(why) => Told {
-            number: refusals::number(why),
+        Err(why) => Told {
+            number: u8::from(why),
             authbits: 0,
             week: 0,
             time: 0,
@@ -268,41 +315,12 @@ pub extern "C" fn dawnstook_reset_authbits(room: &mut [u8]) -> u8
     reply_number(navmessage::reset_authbits(room))
 }
 
-// A refusal: the values beside it are 0 (STORE 14.3).
-fn no_moment(why: Refusal) -> Moment
-    ensures { result ≡ moment_of (refused (refusal_number why)) }
-{
-    Moment {
-        number: refusals::number(why),
-        week: 0,
-        time: 0,
-    }
-}
-
-fn of_time(time: NewTime) -> Moment
-    ensures { result ≡ moment_of (time_answer time) }
-{
-    match time {
-        NewTime::Time(gst) => Moment {
-            number: 0,
-            week: gst.wn.0,
-            time: gst.tow.0,
-        },
-        NewTime::TowTooLarge => no_moment(Refusal::TowTooLarge),
-        NewTime::TimeArithmetic => no_moment(Refusal::TimeArithmetic),
-    }
-}
-
 // The time `seconds` later, or earlier where they are below 0.
 #[unsafe(no_mangle)]
 pub extern "C" fn dawnstook_add_seconds(week: u16, time: u32, seconds: i32) -> Moment
     ensures { result ≡ moment_of (add_seconds week time seconds) }
 {
-    let gst = Gst {
-        wn: Wn(week),
-        tow: Tow(time),
-    };
-    of_time(gst.add_seconds(seconds))
+    Moment::from(Gst::new(week, time).add_seconds(seconds))
 }
 
 // The time so many 30 s subframes later.
@@ -310,11 +328,7 @@ pub extern "C" fn dawnstook_add_seconds(week: u16, time: u32, seconds: i32) -> M
 pub extern "C" fn dawnstook_add_subframes(week: u16, time: u32, subframes: i32) -> Moment
     ensures { result ≡ moment_of (add_subframes week time subframes) }
 {
-    let gst = Gst {
-        wn: Wn(week),
-        tow: Tow(time),
-    };
-    of_time(gst.add_subframes(subframes))
+    Moment::from(Gst::new(week, time).add_subframes(subframes))
 }
 
 // The start of the subframe that the time is in.
@@ -322,30 +336,7 @@ pub extern "C" fn dawnstook_add_subframes(week: u16, time: u32, subframes: i32) 
 pub extern "C" fn dawnstook_gst_subframe(week: u16, time: u32) -> Moment
     ensures { result ≡ moment_of (subframe_of week time) }
 {
-    let gst = Gst {
-        wn: Wn(week),
-        tow: Tow(time),
-    };
-    of_time(gst.gst_subframe())
-}
-
-fn of_start(start: Start) -> Mark
-    ensures { result ≡ mark_of (start_answer start) }
-{
-    match start {
-        Start::Yes => Mark {
-            number: 0,
-            start: 1,
-        },
-        Start::No => Mark {
-            number: 0,
-            start: 0,
-        },
-        Start::TowTooLarge => Mark {
-            number: refusals::number(Refusal::TowTooLarge),
-            start: 0,
-        },
-    }
+    Moment::from(Gst::new(week, time).gst_subframe())
 }
 
 // Whether the time is the start of a subframe.
@@ -353,26 +344,7 @@ fn of_start(start: Start) -> Mark
 pub extern "C" fn dawnstook_is_subframe(week: u16, time: u32) -> Mark
     ensures { result ≡ mark_of (is_subframe week time) }
 {
-    let gst = Gst {
-        wn: Wn(week),
-        tow: Tow(time),
-    };
-    of_start(gst.is_subframe())
-}
-
-fn of_apart(apart: Apart) -> Span
-    ensures { result ≡ span_of (apart_answer apart) }
-{
-    match apart {
-        Apart::Subframes(subframes) => Span {
-            number: 0,
-            subframes,
-        },
-        Apart::TowTooLarge => Span {
-            number: refusals::number(Refusal::TowTooLarge),
-            subframes: 0,
-        },
-    }
+    Mark::from(Gst::new(week, time).is_subframe())
 }
 
 // The subframes from the other time to this one, those of the times of week rounded toward zero.
@@ -385,13 +357,7 @@ pub extern "C" fn dawnstook_subframes_difference(
 ) -> Span
     ensures { result ≡ span_of (difference week time other_week other_time) }
 {
-    let gst = Gst {
-        wn: Wn(week),
-        tow: Tow(time),
-    };
-    let other = Gst {
-        wn: Wn(other_week),
-        tow: Tow(other_time),
-    };
-    of_apart(gst.subframes_difference(other))
+    let gst = Gst::new(week, time);
+    let other = Gst::new(other_week, other_time);
+    Span::from(gst.subframes_difference(other))
 }

@@ -4,18 +4,17 @@
 #![tactic(auto)]
 
 ghost use Rattle.std.specs.Prelude.{◌≡◌};
-ghost use Rattle.paper.specs.Number.{refused};
 ghost use Rattle.paper.specs.Parts.{Bytes};
 ghost use Rattle.paper.specs.Message.{build_answer, build_buffer, read_answer, read_buffer};
 ghost use Rattle.message.specs.Outcome.{built_answer, read_back_answer};
 ghost use Rattle.ffi_message.specs.Handed.{head_given, built_handed, read_handed};
 
 use gst::{Gst, Tow, Wn};
-use message::{Built, Heading, ReadBack};
-use refusals::PADDING_SET;
+use message::Heading;
+use refusals::Refusal;
 use svn::Svn;
 
-// What building came to: its number, and how many bytes the message has.
+// What building came to: its number, and how many bytes the message has. kept: the C interface has a struct with the number beside the value.
 #[repr(C)]
 #[derive(Clone, Copy)]
 pub struct MessageBuilt {
@@ -23,9 +22,9 @@ pub struct MessageBuilt {
     pub bytes: usize,
 }
 
-// What reading back came to: its number, and the fields in front of the data.
+// What reading back came to: its number, and the fields in front of the data. kept: as above.
 #[repr(C)]
-#[derive(Clone, Copy)]
+#[derive(Clone, Copy, Default)]
 pub struct MessageRead {
     pub number: u8,
     pub prnd: u8,
@@ -36,48 +35,39 @@ pub struct MessageRead {
     pub counter: u32,
 }
 
-fn of_built(outcome: Built) -> MessageBuilt
-    ensures { result ≡ built_handed (built_answer outcome) }
-{
-    match outcome {
-        Built::Message(bytes) => MessageBuilt { number: 0, bytes },
-        Built::Refused(why) => MessageBuilt {
-            number: refusals::number(why),
-            bytes: 0,
-        },
+impl From<Result<usize, Refusal>> for MessageBuilt {
+    ghost from_gives = { λ answer r. r ≡ built_handed (built_answer answer) };
+
+    fn from(answer: Result<usize, Refusal>) -> MessageBuilt {
+        match answer {
+            Ok(bytes) => MessageBuilt { number: 0, bytes },
+            Err(why) => MessageBuilt {
+                number: u8::from(why),
+                bytes: 0,
+            },
+        }
     }
 }
 
-// Beside a refusal every field is 0.
-fn no_fields(number: u8) -> MessageRead
-    ensures { result ≡ read_handed (refused number) }
-{
-    MessageRead {
-        number,
-        prnd: 0,
-        prna: 0,
-        status: 0,
-        week: 0,
-        time: 0,
-        counter: 0,
-    }
-}
+impl From<Result<Heading, Refusal>> for MessageRead {
+    ghost from_gives = { λ answer r. r ≡ read_handed (read_back_answer answer) };
 
-fn of_read(outcome: ReadBack) -> MessageRead
-    ensures { result ≡ read_handed (read_back_answer outcome) }
-{
-    match outcome {
-        ReadBack::Message(h) => MessageRead {
-            number: 0,
-            prnd: h.prnd.0,
-            prna: h.prna.0,
-            status: h.status,
-            week: h.gst.wn.0,
-            time: h.gst.tow.0,
-            counter: h.counter,
-        },
-        ReadBack::PaddingSet => no_fields(PADDING_SET),
-        ReadBack::Refused(why) => no_fields(refusals::number(why)),
+    fn from(answer: Result<Heading, Refusal>) -> MessageRead {
+        match answer {
+            Ok(h) => MessageRead {
+                number: 0,
+                prnd: h.prnd.0,
+                prna: h.prna.0,
+                status: h.status,
+                week: h.gst.wn.0,
+                time: h.gst.tow.0,
+                counter: h.counter,
+            },
+            Err(why) => MessageRead {
+                number: u8::from(why),
+                ..MessageRead::default()
+            },
+        }
     }
 }
 
@@ -108,7 +98,7 @@ pub extern "C" fn dawnstook_build_message(
         counter,
         status,
     };
-    of_built(message::build(out, form, heading, given))
+    message::build(out, form, heading, given).into()
 }
 
 // The fields of a message, and its data at the start of the lent buffer.
@@ -118,5 +108,5 @@ pub extern "C" fn dawnstook_read_message(out: &mut [u8], message: &[u8], form: u
         × (out.new ≡ read_buffer form message.now out.old)
         × Bytes message.now }
 {
-    of_read(message::read(out, form, message))
+    message::read(out, form, message).into()
 }

@@ -4,19 +4,20 @@
 #![tactic(auto)]
 
 ghost use Rattle.std.specs.Prelude.{◌≡◌, length};
-ghost use Rattle.paper.specs.Number.{refused};
 ghost use Rattle.paper.specs.Record.{CED, Timing as TIMING, family_if};
 ghost use Rattle.paper.specs.Orbit.{numbers_answer, numbers_data};
 ghost use Rattle.orbit.specs.Numbers.{orbit_from, timing_from};
 ghost use Rattle.orbit.specs.Got.{placed_answer, PlacedWithin, part_placed};
 ghost use Rattle.ffi_orbit.specs.Handed.{head_handed, orbit_handed, timing_handed};
 
+use ask::Answering;
 use fields::{Word1, Word2, Word3, Word4, Word5, Word6, Word10};
-use orbit::{Placed, Scaled, ScaledTiming};
-use refusals::{ISSUES_DIFFER, OTHER_SATELLITE};
+use orbit::{Scaled, ScaledTiming};
+use refusals::Refusal;
 use svn::Svn;
 
 // An orbit: its number, the count, the time, the whole numbers by their words, and the doubles.
+// kept: C has no Result, so the number stands beside the values here, in the next and in `Head`; it reads them by fields, which differ.
 #[repr(C)]
 #[derive(Clone, Copy)]
 pub struct OrbitRead {
@@ -54,44 +55,36 @@ struct Head {
     time: u32,
 }
 
-// Beside a refusal the count and the time are 0.
-fn no_numbers(number: u8) -> Head
-    ensures { result ≡ head_handed (refused number) }
-{
-    Head {
-        number,
-        authbits: 0,
-        week: 0,
-        time: 0,
-    }
-}
+// Beside a refusal the count and the time are 0 (STORE 14.3).
+impl From<Result<Answering, Refusal>> for Head {
+    ghost from_gives = { λ placed head. head ≡ head_handed (placed_answer placed) };
 
-fn head_of(placed: Placed) -> Head
-    ensures { result ≡ head_handed (placed_answer placed) }
-{
-    match placed {
-        Placed::At(_, authbits, gst) => Head {
-            number: 0,
-            authbits,
-            week: gst.wn.0,
-            time: gst.tow.0,
-        },
-        Placed::IssuesDiffer => no_numbers(ISSUES_DIFFER),
-        Placed::OtherSatellite => no_numbers(OTHER_SATELLITE),
-        Placed::Refused(why) => no_numbers(refusals::number(why)),
+    fn from(placed: Result<Answering, Refusal>) -> Head {
+        match placed {
+            Ok(answer) => Head {
+                number: 0,
+                authbits: answer.authbits,
+                week: answer.gst.wn.0,
+                time: answer.gst.tow.0,
+            },
+            Err(why) => Head {
+                number: u8::from(why),
+                authbits: 0,
+                week: 0,
+                time: 0,
+            },
+        }
     }
 }
 
 // The data that is to be read, or the empty slice.
-fn part_placed(room: &[u8], timing: bool, placed: Placed) -> &[u8]
+fn part_placed(room: &[u8], timing: bool, placed: Result<Answering, Refusal>) -> &[u8]
     requires { PlacedWithin (family_if timing) placed (length room.now) }
     ensures { result.now ≡ part_placed (family_if timing) placed room.now }
 {
     match placed {
-        Placed::At(at, _, _) => lookup::data_of(room, at, timing),
-        Placed::IssuesDiffer => &room[0..0],
-        Placed::OtherSatellite => &room[0..0],
-        Placed::Refused(_) => &room[0..0],
+        Ok(answer) => lookup::data_of(room, answer.at, timing),
+        Err(_) => &room[0..0],
     }
 }
 
@@ -101,7 +94,7 @@ pub extern "C" fn dawnstook_get_orbit(room: &[u8], sat: u8) -> OrbitRead
     ensures { result ≡ orbit_handed (numbers_answer CED sat room.now) (orbit_from (numbers_data CED sat room.now)) }
 {
     let placed = orbit::place(room, false, Svn(sat));
-    let head = head_of(placed);
+    let head = Head::from(placed);
     let all = orbit::orbit_of(part_placed(room, false, placed));
     let word1 = all.word1;
     let word2 = all.word2;
@@ -129,7 +122,7 @@ pub extern "C" fn dawnstook_get_timing_numbers(room: &[u8], sat: u8) -> TimingRe
     ensures { result ≡ timing_handed (numbers_answer TIMING sat room.now) (timing_from (numbers_data TIMING sat room.now)) }
 {
     let placed = orbit::place(room, true, Svn(sat));
-    let head = head_of(placed);
+    let head = Head::from(placed);
     let all = orbit::timing_of(part_placed(room, true, placed));
     let word6 = all.word6;
     let word10 = all.word10;

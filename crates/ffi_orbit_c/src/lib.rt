@@ -1,5 +1,6 @@
 // The calls that read numbers as C and Rust link them: each is the function of that name in `ffi_orbit`, under the same contract. They are an
 // object of their own in the archive, so that who reads no numbers links none of this.
+// kept twice: no crate can name a static library, and the theorems speak of `ffi_orbit`.
 #![tactic(auto)]
 
 ghost use Rattle.std.specs.Prelude.{◌≡◌};

@@ -1,3 +1,4 @@
+pub mod MinusOne
 pub mod Shifts
 pub mod Words
 pub mod Determined

@@ -1,10 +1,13 @@
 // The fields of the words as whole numbers (STORE 20.1 to 20.3), read from a record's data or from a word: a word's fields stand one behind
 // the other from where they start. Past the end of the bytes every bit is 0.
+// kept: a struct and a function for each word, since C reads the numbers of each by their names (`repr(C)`)
 #![tactic(auto)]
 
 ghost use Rattle.std.specs.Prelude.{◌≡◌, ◌+◌, ◌*◌, ◌^◌, ◌≤◌, ◌<◌, get_or};
 ghost use Rattle.paper.specs.Field.{signed as twos, value_of, fields_of, bits_at, numbers_at};
 ghost use Rattle.fields.specs.Words.{word1_from, word2_from, word3_from, word4_from, word5_from, word6_from, word10_from};
+
+use numbers::byte_or_zero;
 
 // Word 1: the issue of the data, the reference time of the orbit, mean anomaly, eccentricity, square root of the semi-major axis.
 #[repr(C)]
@@ -280,27 +283,17 @@ impl Word10 {
     pub const BITS: usize = Word10::A0G + Word10::A1G + Word10::T0G + Word10::WN0G;
 }
 
-fn byte_or_zero(s: &[u8], j: usize) -> u64
-    ensures { (result ≡ get_or s.now j 0) × (result < 256) }
-{
-    if j < s.len() { widened(s[j]) } else { 0 }
-}
-
-fn widened(x: u8) -> u64
-    ensures { (result ≡ x) × (result < 256) }
-{
-    x as u64
-}
-
 // Five bytes from byte j on, in which any field of up to 32 bits lies that starts in the first of them.
 fn five_bytes(s: &[u8], j: usize) -> u64
     requires { j ≤ 8192 }
     ensures { (result ≡ bits_at s.now (8 * j) 40) × (result < 2 ^ 40) }
 {
-    let a = byte_or_zero(s, j) * 256 + byte_or_zero(s, j + 1);
-    let b = a * 256 + byte_or_zero(s, j + 2);
-    let c = b * 256 + byte_or_zero(s, j + 3);
-    c * 256 + byte_or_zero(s, j + 4)
+    let a = byte_or_zero(s, j);
+    let b = byte_or_zero(s, j + 1);
+    let c = byte_or_zero(s, j + 2);
+    let d = byte_or_zero(s, j + 3);
+    let e = byte_or_zero(s, j + 4);
+    u64::from_be_bytes([0, 0, 0, a, b, c, d, e])
 }
 
 // The w bits from bit o on, as a number.
@@ -320,7 +313,7 @@ pub fn whole(s: &[u8], o: usize, w: usize) -> u32
     number(s, o, w) as u32
 }
 
-// A field of w bits from bit o on in two's complement.
+// A field of w bits from bit o on in two's complement. kept: the library's `cast_signed` knows the widths of types alone
 pub fn signed(s: &[u8], o: usize, w: usize) -> i32
     requires { (o ≤ 65535) × (1 ≤ w) × (w ≤ 32) }
     ensures { result ≡ value_of twos w (bits_at s.now o w) }

@@ -2,7 +2,7 @@
 // rule and the room's length are allowed is tested before.
 #![tactic(auto)]
 
-ghost use Rattle.std.specs.Prelude.{◌≡◌, ◌+◌, ◌≤◌, ◌<◌, length, replicate};
+ghost use Rattle.std.specs.Prelude.{◌≡◌, ◌+◌, ◌≤◌, ◌<◌, length};
 ghost use Rattle.paper.specs.Fresh.{header, blank_slot, blank_row, fresh};
 ghost use Rattle.paper.specs.Parts.{on_part, on_parts};
 ghost use Rattle.paper.specs.Record.{Family, ages, ages_at, size, blank_record};
@@ -11,25 +11,13 @@ ghost use Rattle.paper.specs.Room.{header_size, head_size, slot_size, row_size, 
 use layout::{DEPTH_AT, HEADER, ROW_HEAD, RULE_AT, SLOT, SLOTS_AT, TIMING_AT};
 use records::{AGES_AT, Ced, OLDEST, Timing};
 
-// Every byte made x.
-fn fill(bytes: &mut [u8], x: u8)
-    ensures { bytes.new ≡ replicate (length bytes.old) x }
-{
-    let mut i: usize = 0;
-    while i < bytes.len() {
-        bytes[i] = x;
-        i += 1;
-    }
-}
-
 // For the family whose length and number of words it has: the ages stand behind the satellite and the count.
 fn blank_record(bytes: &mut [u8], words: usize)
     requires { ages_at + words ≤ length bytes.old }
     ensures { (f : Family) → length bytes.old ≡ size f → words ≡ ages f → bytes.new ≡ blank_record f }
 {
-    fill(bytes, 0);
-    let e = AGES_AT + words;
-    fill(&mut bytes[AGES_AT..e], OLDEST);
+    bytes.fill(0);
+    bytes[AGES_AT..AGES_AT + words].fill(OLDEST);
 }
 
 fn blank_slot(slot: &mut [u8])
@@ -40,17 +28,14 @@ fn blank_slot(slot: &mut [u8])
     blank_record(&mut slot[TIMING_AT..SLOT], Timing::WORDS);
 }
 
+#[tactic(auto, using(paper::proofs::Parts::parts_turn), unfolding(paper::specs::Parts::on_parts))]
 fn blank_slots(row: &mut [u8], n: usize)
     requires { row_size n ≤ length row.old }
     ensures { row.new ≡ on_parts (λ _. blank_slot) slot_size n head_size row.old }
 {
-    let mut at = ROW_HEAD;
-    let mut left = n;
-    while left > 0 {
-        let e = at + SLOT;
-        blank_slot(&mut row[at..e]);
-        at = e;
-        left -= 1;
+    for i in 0..n {
+        let at = rows::slot_start(i);
+        blank_slot(&mut row[at..at + SLOT]);
     }
 }
 
@@ -59,22 +44,19 @@ fn blank_row(row: &mut [u8], n: usize)
     requires { row_size n ≤ length row.old }
     ensures { row.new ≡ blank_row n row.old }
 {
-    fill(&mut row[0..ROW_HEAD], 0);
+    row[0..ROW_HEAD].fill(0);
     blank_slots(row, n);
 }
 
+#[tactic(auto, using(paper::proofs::Parts::parts_turn), unfolding(paper::specs::Parts::on_parts))]
 fn blank_rows(room: &mut [u8], d: usize, n: usize)
     requires { (n < 256) × (room_size d n ≤ length room.old) }
     ensures { room.new ≡ on_parts (blank_row n) (row_size n) d header_size room.old }
 {
     let row = rows::row_size(n);
-    let mut at = HEADER;
-    let mut left = d;
-    while left > 0 {
-        let e = at + row;
-        blank_row(&mut room[at..e], n);
-        at = e;
-        left -= 1;
+    for r in 0..d {
+        let at = HEADER + r * row;
+        blank_row(&mut room[at..at + row], n);
     }
 }
 
@@ -82,7 +64,7 @@ fn put_header(room: &mut [u8], d: u8, n: u8, rule: u8)
     requires { header_size ≤ length room.old }
     ensures { room.new ≡ on_part (λ _. header d n rule) 0 header_size room.old }
 {
-    fill(&mut room[0..HEADER], 0);
+    room[0..HEADER].fill(0);
     room[DEPTH_AT] = d;
     room[SLOTS_AT] = n;
     room[RULE_AT] = rule;
@@ -95,5 +77,5 @@ pub fn fresh_room(room: &mut [u8], d: u8, n: u8, rule: u8)
     ensures { room.new ≡ fresh d n rule room.old }
 {
     put_header(room, d, n, rule);
-    blank_rows(room, numbers::as_usize(d), numbers::as_usize(n));
+    blank_rows(room, usize::from(d), usize::from(n));
 }

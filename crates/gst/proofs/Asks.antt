@@ -1,6 +1,8 @@
 -- No call asks anything of its caller: what each asks holds of all arguments. Assumes nothing.
 use borrow.Fn.Kinds.{Dens}
 use contract.Lifetimes.{Lfts}
+use Rattle.gst.proofs.Gst.new.Reads as new
+use Rattle.gst.proofs.Gst.new.Kinds as new_kinds
 use Rattle.gst.proofs.Gst.add_seconds.Reads as add-seconds
 use Rattle.gst.proofs.Gst.add_seconds.Kinds as add_seconds_kinds
 use Rattle.gst.proofs.Gst.add_subframes.Reads as add-subframes
@@ -11,12 +13,15 @@ use Rattle.gst.proofs.Gst.is_subframe.Reads as is-subframe
 use Rattle.gst.proofs.Gst.is_subframe.Kinds as is_subframe_kinds
 use Rattle.gst.proofs.Gst.subframes_difference.Reads as subframes_difference
 use Rattle.gst.proofs.Gst.subframes_difference.Kinds as subframes_difference_kinds
-use Rattle.gst.proofs.NewTime.add_seconds.Reads as chained_add_seconds
-use Rattle.gst.proofs.NewTime.add_seconds.Kinds as chained_add_seconds_kinds
-use Rattle.gst.proofs.NewTime.add_subframes.Reads as chained_add_subframes
-use Rattle.gst.proofs.NewTime.add_subframes.Kinds as chained_add_subframes_kinds
-use Rattle.gst.proofs.NewTime.gst_subframe.Reads as chained_gst_subframe
-use Rattle.gst.proofs.NewTime.gst_subframe.Kinds as chained_gst_subframe_kinds
+use Rattle.gst.proofs.ResultGstRefusalChained.add_seconds.Reads as chained_add_seconds
+use Rattle.gst.proofs.ResultGstRefusalChained.add_seconds.Kinds as chained_add_seconds_kinds
+use Rattle.gst.proofs.ResultGstRefusalChained.add_subframes.Reads as chained_add_subframes
+use Rattle.gst.proofs.ResultGstRefusalChained.add_subframes.Kinds as chained_add_subframes_kinds
+use Rattle.gst.proofs.ResultGstRefusalChained.gst_subframe.Reads as chained_gst_subframe
+use Rattle.gst.proofs.ResultGstRefusalChained.gst_subframe.Kinds as chained_gst_subframe_kinds
+
+pub new_asks_nothing : (κs : Lfts 0) (a : Dens κs new_kinds.ps) → new.Asked κs a
+new_asks_nothing κs a = tt
 
 pub add_seconds_asks_nothing : (κs : Lfts 0) (a : Dens κs add_seconds_kinds.ps) → add-seconds.Asked κs a
 add_seconds_asks_nothing κs a = tt

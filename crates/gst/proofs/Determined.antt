@@ -4,13 +4,15 @@ use mathlib.Core.Bool.{Bool, true, false, not}
 use borrow.Fn.Kinds.{res_t, ended_of, Dens}
 use denote.Triple.Clauses.{AtExit}
 use contract.Lifetimes.{Lfts}
-use Rattle.gst.proofs.OneToOne.{new_time_one, start_one, apart_one}
+use Rattle.gst.proofs.OneToOne.{same_time, new_time_one, start_one, apart_one}
 use Rattle.gst.proofs.tow_too_large.Reads as tow_too_large_reads
 use Rattle.gst.proofs.tow_too_large.Kinds as tow_too_large_kinds
 use Rattle.gst.proofs.not_a_start.Reads as not_a_start_reads
 use Rattle.gst.proofs.not_a_start.Kinds as not_a_start_kinds
 use Rattle.gst.proofs.subframe_at.Reads as subframe_at_reads
 use Rattle.gst.proofs.subframe_at.Kinds as subframe_at_kinds
+use Rattle.gst.proofs.Gst.new.Reads as new_reads
+use Rattle.gst.proofs.Gst.new.Kinds as new_kinds
 use Rattle.gst.proofs.Gst.add_seconds.Reads as add_seconds_reads
 use Rattle.gst.proofs.Gst.add_seconds.Kinds as add_seconds_kinds
 use Rattle.gst.proofs.Gst.add_subframes.Reads as add_subframes_reads
@@ -21,12 +23,12 @@ use Rattle.gst.proofs.Gst.is_subframe.Reads as is_subframe_reads
 use Rattle.gst.proofs.Gst.is_subframe.Kinds as is_subframe_kinds
 use Rattle.gst.proofs.Gst.subframes_difference.Reads as subframes_difference_reads
 use Rattle.gst.proofs.Gst.subframes_difference.Kinds as subframes_difference_kinds
-use Rattle.gst.proofs.NewTime.add_seconds.Reads as chained_add_seconds_reads
-use Rattle.gst.proofs.NewTime.add_seconds.Kinds as chained_add_seconds_kinds
-use Rattle.gst.proofs.NewTime.add_subframes.Reads as chained_add_subframes_reads
-use Rattle.gst.proofs.NewTime.add_subframes.Kinds as chained_add_subframes_kinds
-use Rattle.gst.proofs.NewTime.gst_subframe.Reads as chained_gst_subframe_reads
-use Rattle.gst.proofs.NewTime.gst_subframe.Kinds as chained_gst_subframe_kinds
+use Rattle.gst.proofs.ResultGstRefusalChained.add_seconds.Reads as chained_add_seconds_reads
+use Rattle.gst.proofs.ResultGstRefusalChained.add_seconds.Kinds as chained_add_seconds_kinds
+use Rattle.gst.proofs.ResultGstRefusalChained.add_subframes.Reads as chained_add_subframes_reads
+use Rattle.gst.proofs.ResultGstRefusalChained.add_subframes.Kinds as chained_add_subframes_kinds
+use Rattle.gst.proofs.ResultGstRefusalChained.gst_subframe.Reads as chained_gst_subframe_reads
+use Rattle.gst.proofs.ResultGstRefusalChained.gst_subframe.Kinds as chained_gst_subframe_kinds
 
 -- a test that says the opposite of what the paper's says
 opposite : (b b' : Bool) → not b ≡ not b' → b ≡ b'
@@ -58,6 +60,14 @@ pub subframe_at_determined :
     (e e' : AtExit (ended_of 0 subframe_at_kinds.ps subframe_at_kinds.r) κs)
     → subframe_at_reads.Post κs a r e → subframe_at_reads.Post κs a r' e' → r ≡ r'
 subframe_at_determined κs a r r' e e' p q = p ∙ sym q
+
+pub new_determined :
+    (κs : Lfts 0)
+    (a : Dens κs new_kinds.ps)
+    (r r' : (res_t new_kinds.r κs).Denot)
+    (e e' : AtExit (ended_of 0 new_kinds.ps new_kinds.r) κs)
+    → new_reads.Post κs a r e → new_reads.Post κs a r' e' → r ≡ r'
+new_determined κs a r r' e e' p q = same_time r r' (p.0 ∙ sym q.0) (p.1 ∙ sym q.1)
 
 pub add_seconds_determined :
     (κs : Lfts 0)

@@ -1,55 +1,49 @@
 -- An answer of `gst` is known by the paper's number and values: no two answers have the same.
-use mathlib.Core.Path.{◌≡◌, refl, sym, ap, ◌∙◌}
-use mathlib.Core.Bool.{cond}
-use mathlib.Core.List.{[], ◌∷◌}
-use lib.Dec.{eqb}
-use Rattle.paper.specs.Number.{Answer, done, refused}
+use native.Mathlib.Omega.{arith}
+use mathlib.Core.Path.{◌≡◌, refl, ap}
+use Prim.Native.Nat.{ℕ}
+use lib.IntN.{ℤ}
+use Rattle.std.specs.Prelude.{Bool, true, false, cond, List, [], ◌∷◌, Result, Ok, Err}
 use Rattle.paper.specs.Time.{Difference, subframes, no_difference}
+use Rattle.refusals.specs.Reply.{refusal_number}
+use Rattle.refusals.specs.declared.Refusal.{Refusal}
+use Rattle.refusals.proofs.Answers.{same_answer, same_refusal}
 use Rattle.gst.specs.Answer.{time_answer, start_answer, apart_answer}
-use Rattle.gst.specs.declared.NewTime.{NewTime}
-use Rattle.gst.specs.declared.NewTime.TheVariants.{Time, TowTooLarge, TimeArithmetic}
-use Rattle.gst.specs.declared.Start.{Start}
-use Rattle.gst.specs.declared.Start.TheVariants.{Yes, No, TowTooLarge as NoStart}
-use Rattle.gst.specs.declared.Apart.{Apart}
-use Rattle.gst.specs.declared.Apart.TheVariants.{Subframes, TowTooLarge as NoApart}
+use Rattle.gst.specs.declared.Gst.{Gst}
 
--- the new time from its number and values
-abbrev new_time_of : Answer → NewTime
-new_time_of (done []) = TowTooLarge
-new_time_of (done (w ∷ [])) = TowTooLarge
-new_time_of (done (w ∷ t ∷ l)) = Time (record { wn = record { 0 = w }; tow = record { 0 = t } })
-new_time_of (refused k) = cond (eqb k 5) TowTooLarge TimeArithmetic
+-- the time from its numbers
+abbrev time_from : List ℕ → Gst
+time_from [] = record { wn = record { 0 = 0 }; tow = record { 0 = 0 } }
+time_from (w ∷ []) = record { wn = record { 0 = w }; tow = record { 0 = 0 } }
+time_from (w ∷ t ∷ l) = record { wn = record { 0 = w }; tow = record { 0 = t } }
 
-new_time_of_answer_of : (r : NewTime) → new_time_of (time_answer r) ≡ r
-new_time_of_answer_of (Time g) = refl
-new_time_of_answer_of TowTooLarge = refl
-new_time_of_answer_of TimeArithmetic = refl
+-- a time is known by its week and its time of week
+pub same_time : (g g' : Gst) → g.wn.0 ≡ g'.wn.0 → g.tow.0 ≡ g'.tow.0 → g ≡ g'
+same_time g g' week time =
+    let numbers : ◌≡◌ {A = List ℕ} (g.wn.0 ∷ g.tow.0 ∷ []) (g'.wn.0 ∷ g'.tow.0 ∷ []) = cc in
+    ap time_from numbers
 
-pub new_time_one : (r r' : NewTime) → time_answer r ≡ time_answer r' → r ≡ r'
-new_time_one r r' e = sym (new_time_of_answer_of r) ∙ ap new_time_of e ∙ new_time_of_answer_of r'
+pub new_time_one : (r r' : Result Gst Refusal) → time_answer r ≡ time_answer r' → r ≡ r'
+new_time_one = same_answer (λ g. g.wn.0 ∷ g.tow.0 ∷ []) (λ g g' e. ap time_from e)
 
--- whether it is a start from its number and value
-abbrev start_of : Answer → Start
-start_of (done []) = NoStart
-start_of (done (b ∷ l)) = cond (eqb b 1) Yes No
-start_of (refused k) = NoStart
+-- a yes or a no from its number
+yes_one : (b b' : Bool) → ◌≡◌ {A = List ℕ} (cond b 1 0 ∷ []) (cond b' 1 0 ∷ []) → b ≡ b'
+yes_one true true e = refl
+yes_one true false e = absurd (let z : ◌≡◌ {A = ℕ} 1 0 = cc in omega arith)
+yes_one false true e = absurd (let z : ◌≡◌ {A = ℕ} 0 1 = cc in omega arith)
+yes_one false false e = refl
 
-start_of_start_answer : (r : Start) → start_of (start_answer r) ≡ r
-start_of_start_answer Yes = refl
-start_of_start_answer No = refl
-start_of_start_answer NoStart = refl
+pub start_one : (r r' : Result Bool Refusal) → start_answer r ≡ start_answer r' → r ≡ r'
+start_one = same_answer (λ yes. cond yes 1 0 ∷ []) yes_one
 
-pub start_one : (r r' : Start) → start_answer r ≡ start_answer r' → r ≡ r'
-start_one r r' e = sym (start_of_start_answer r) ∙ ap start_of e ∙ start_of_start_answer r'
+-- a difference and a refusal are told apart by their case
+is_apart : Difference → ℕ
+is_apart (subframes n) = 1
+is_apart (no_difference k) = 0
 
--- the subframes apart from what the paper says of them
-abbrev apart_of : Difference → Apart
-apart_of (subframes n) = Subframes n
-apart_of (no_difference k) = NoApart
-
-apart_of_apart_answer : (r : Apart) → apart_of (apart_answer r) ≡ r
-apart_of_apart_answer (Subframes n) = refl
-apart_of_apart_answer NoApart = refl
-
-pub apart_one : (r r' : Apart) → apart_answer r ≡ apart_answer r' → r ≡ r'
-apart_one r r' e = sym (apart_of_apart_answer r) ∙ ap apart_of e ∙ apart_of_apart_answer r'
+pub apart_one : (r r' : Result ℤ Refusal) → apart_answer r ≡ apart_answer r' → r ≡ r'
+unfolding is_apart
+apart_one (Ok n) (Ok m) e = let same : n ≡ m = cc in ap Ok same
+apart_one (Ok n) (Err w) e = absurd (let z : ◌≡◌ {A = ℕ} 1 0 = ap is_apart e in omega arith)
+apart_one (Err v) (Ok m) e = absurd (let z : ◌≡◌ {A = ℕ} 0 1 = ap is_apart e in omega arith)
+apart_one (Err v) (Err w) e = let same : refusal_number v ≡ refusal_number w = cc in ap Err (same_refusal v w same)

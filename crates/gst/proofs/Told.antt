@@ -12,33 +12,33 @@ use Rattle.paper.specs.Number.{Answer, done, refused, number}
 use Rattle.paper.specs.Time.{is_time, is_start, start_of, week_seconds, last_week, seconds_of, time_of_seconds, sum_of, add_seconds, subframe_of, is_subframe}
 use Rattle.gst.specs.Answer.{time_answer, start_answer}
 use Rattle.gst.specs.declared.Gst.{Gst}
-use Rattle.gst.specs.declared.NewTime.{NewTime}
-use Rattle.gst.specs.declared.NewTime.TheVariants.{Time, TowTooLarge, TimeArithmetic}
-use Rattle.gst.specs.declared.Start.TheVariants.{Yes, No, TowTooLarge as NoStart}
+use Rattle.std.specs.Prelude.{Result, Ok, Err}
+use Rattle.refusals.specs.declared.Refusal.{Refusal}
+use Rattle.refusals.specs.declared.Refusal.TheVariants.{TowTooLarge}
+use Rattle.refusals.proofs.Answers.{not_zero}
 
--- the arm of `let NewTime::Time(..) = .. else`: the number is not 0
-pub refuses_time : (r : NewTime) → ((g : Gst) → r ≡ Time g → ⊥) → eqb (number (time_answer r)) 0 ≡ false
-refuses_time (Time g) k = absurd (k g refl)
-refuses_time TowTooLarge k = refl
-refuses_time TimeArithmetic k = refl
+-- the arm of `let Ok(..) = .. else`: the number is not 0
+pub refuses_time : (r : Result Gst Refusal) → ((g : Gst) → r ≡ Ok g → ⊥) → eqb (number (time_answer r)) 0 ≡ false
+refuses_time (Ok g) k = absurd (k g refl)
+refuses_time (Err why) k = not_zero why
 
 -- a cut time: the time asked is one, and this is the start of its subframe
 pub cut_time :
     (w t : ℕ) (g : Gst) →
-    time_answer (Time g) ≡ subframe_of w t → (is_time t ≡ true) × ((g.wn.0 ≡ w) × (g.tow.0 ≡ start_of t))
+    time_answer (Ok g) ≡ subframe_of w t → (is_time t ≡ true) × ((g.wn.0 ≡ w) × (g.tow.0 ≡ start_of t))
 unfolding subframe_of
 cut_time w t g e = go (is_time t) e
   where
     go :
         (b : Bool) →
-        time_answer (Time g) ≡ cond b (done (w ∷ start_of t ∷ [])) (refused 5) →
+        time_answer (Ok g) ≡ cond b (done (w ∷ start_of t ∷ [])) (refused 5) →
         (b ≡ true) × ((g.wn.0 ≡ w) × (g.tow.0 ≡ start_of t))
     go true h = (refl, (cc, cc))
     go false h = absurd (let z : ◌≡◌ {A = ℕ} 0 1 = cc in omega arith)
 
 -- none: the time asked is none
 pub cut_none :
-    (w t : ℕ) (r : NewTime) → time_answer r ≡ subframe_of w t → eqb (number (time_answer r)) 0 ≡ false → is_time t ≡ false
+    (w t : ℕ) (r : Result Gst Refusal) → time_answer r ≡ subframe_of w t → eqb (number (time_answer r)) 0 ≡ false → is_time t ≡ false
 unfolding subframe_of
 cut_none w t r e n = go (is_time t) (ap (λ (a : Answer). eqb (number a) 0) (sym e) ∙ n)
   where
@@ -47,31 +47,31 @@ cut_none w t r e n = go (is_time t) (ap (λ (a : Answer). eqb (number a) 0) (sym
     go false h = refl
 
 -- is it a start: the time asked is one and is a start, is one and is none, or is no time
-pub start_yes : (w t : ℕ) → start_answer Yes ≡ is_subframe w t → (is_time t ≡ true) × (is_start t ≡ true)
+pub start_yes : (w t : ℕ) → start_answer (Ok true) ≡ is_subframe w t → (is_time t ≡ true) × (is_start t ≡ true)
 unfolding is_subframe
 start_yes w t e = go (is_time t) (is_start t) e
   where
     go :
-        (b s : Bool) → start_answer Yes ≡ cond b (done (cond s 1 0 ∷ [])) (refused 5) → (b ≡ true) × (s ≡ true)
+        (b s : Bool) → start_answer (Ok true) ≡ cond b (done (cond s 1 0 ∷ [])) (refused 5) → (b ≡ true) × (s ≡ true)
     go true true h = (refl, refl)
     go true false h = absurd (let z : ◌≡◌ {A = ℕ} 0 1 = cc in omega arith)
     go false s h = absurd (let z : ◌≡◌ {A = ℕ} 0 1 = cc in omega arith)
 
-pub start_no : (w t : ℕ) → start_answer No ≡ is_subframe w t → (is_time t ≡ true) × (is_start t ≡ false)
+pub start_no : (w t : ℕ) → start_answer (Ok false) ≡ is_subframe w t → (is_time t ≡ true) × (is_start t ≡ false)
 unfolding is_subframe
 start_no w t e = go (is_time t) (is_start t) e
   where
     go :
-        (b s : Bool) → start_answer No ≡ cond b (done (cond s 1 0 ∷ [])) (refused 5) → (b ≡ true) × (s ≡ false)
+        (b s : Bool) → start_answer (Ok false) ≡ cond b (done (cond s 1 0 ∷ [])) (refused 5) → (b ≡ true) × (s ≡ false)
     go true true h = absurd (let z : ◌≡◌ {A = ℕ} 0 1 = cc in omega arith)
     go true false h = (refl, refl)
     go false s h = absurd (let z : ◌≡◌ {A = ℕ} 0 1 = cc in omega arith)
 
-pub start_none : (w t : ℕ) → start_answer NoStart ≡ is_subframe w t → is_time t ≡ false
+pub start_none : (w t : ℕ) → start_answer (Err TowTooLarge) ≡ is_subframe w t → is_time t ≡ false
 unfolding is_subframe
 start_none w t e = go (is_time t) (is_start t) e
   where
-    go : (b s : Bool) → start_answer NoStart ≡ cond b (done (cond s 1 0 ∷ [])) (refused 5) → b ≡ false
+    go : (b s : Bool) → start_answer (Err TowTooLarge) ≡ cond b (done (cond s 1 0 ∷ [])) (refused 5) → b ≡ false
     go true s h = absurd (let z : ◌≡◌ {A = ℕ} 0 1 = cc in omega arith)
     go false s h = refl
 

@@ -15,7 +15,9 @@ use Rattle.lines.specs.declared.Kind.TheVariants.{Word, Tag, Reset, Ced, Timing,
 use Rattle.lines.specs.Kinds.{kind_of, body_length, longest_item}
 use Rattle.lines.proofs.Longest.{body_within}
 use Rattle.intake.specs.Input.{Stage, going, ended, unfinished, behind, stage_after, stage_of}
-use Rattle.intake.specs.Reader.{reader_bytes, have_at, ended_at, number_at, kept_in, stage_in, state_of, reader_of}
+use Rattle.intake.specs.Reader.{reader_bytes, have_at, ended_at, number_at, kept_in, stage_in, state_of, reader_of, stage_number, standing, number_at_stand}
+use Rattle.intake.specs.declared.Stand.{Stand}
+use Rattle.intake.specs.declared.Stand.TheVariants.{Going, Ended}
 
 -- ---- what is kept is not a whole item
 abbrev pub Proper : Stage → Type 0
@@ -101,6 +103,11 @@ pub stage_going :
     → stage_in reader ≡ going (take have reader)
 unfolding stage_in
 stage_going reader have h k = rw (eq-eqb (get_or reader ended_at 0) 0 h, k) refl
+
+-- the number of where it stands, whatever it keeps
+pub number_standing : (kept : List ℕ) (s : Stand) → number_at_stand s ≡ stage_number (standing kept s)
+number_standing kept (Going have) = refl
+number_standing kept (Ended k) = refl
 
 -- ---- what `keep` writes, and what `kept_in` finds
 pub kept_then :

@@ -1,8 +1,10 @@
 -- STORE 17.8: a reader of an input in parts: its state as bytes, and how much of a part it takes where the output may be short.
-use Rattle.std.specs.Prelude.{ℕ, suc, ◌+◌, ◌-◌, ◌≤◌, ◌≡◌, Bool, true, false, cond, not, ◌&&◌, List, [], ◌∷◌, ◌++◌, length, get_or, take, replicate, eqb, ltb}
+use Rattle.std.specs.Prelude.{ℕ, suc, ◌+◌, ◌-◌, ◌≤◌, ◌≡◌, Bool, true, false, cond, not, ◌&&◌, List, [], ◌∷◌, ◌++◌, length, get_or, take, replicate, eqb, ltb, ⊤, Option, Some, None}
 use Rattle.text.specs.Text.{Put}
 use Rattle.lines.specs.Kinds.{kind_of, body_length, longest_item}
-use Rattle.benchlines.specs.Items.{unknown_kind}
+use Rattle.intake.specs.declared.Stand.{Stand}
+use Rattle.intake.specs.declared.Stand.TheVariants.{Going, Ended}
+use Rattle.intake.specs.declared.Step.{Step}
 use Rattle.intake.specs.Input.{Item, Stage, going, ended, unfinished, stage_after, items_with, items_of, stage_at_end, items_at_end, most_for, room_of, lines_of}
 
 -- ---- the state, as bytes: room for an item, how many bytes of it are kept, whether the input has ended (0 is no), and its number
@@ -79,8 +81,13 @@ abbrev pub number_at_end : Stage → ℕ
 number_at_end s = stage_number (stage_at_end s)
 
 -- ---- while a part is taken: where the reader stands by its buffer, and that what is kept is not a whole item
-abbrev pub standing : List ℕ → ℕ → Bool → Stage
-standing kept have stopped = cond stopped (ended unknown_kind) (going (take have kept))
+abbrev pub standing : List ℕ → Stand → Stage
+standing kept (Going have) = going (take have kept)
+standing kept (Ended k) = ended k
+
+abbrev pub number_at_stand : Stand → ℕ
+number_at_stand (Going have) = 0
+number_at_stand (Ended k) = k
 
 -- what one byte leaves: nothing, where the output is full; else the reader, the room and the lines behind those that are written
 pub record Stepped (traced : Bool) (s : Stage) (b : ℕ) (room out : List ℕ) (at : ℕ) (s' : Stage) (room' out' : List ℕ) (said : ℕ) (stop : Bool) : Type 0 where
@@ -92,3 +99,18 @@ pub record Stepped (traced : Bool) (s : Stage) (b : ℕ) (room out : List ℕ) (
 pub record NotWhole (kept : List ℕ) (have : ℕ) : Type 0 where
   pub size : length kept ≡ reader_bytes
   pub within : have ≤ body_length (kind_of (get_or kept 0 0))
+
+abbrev pub StandsWithin : List ℕ → Stand → Type 0
+StandsWithin kept (Going have) = NotWhole kept have
+StandsWithin kept (Ended k) = ⊤
+
+-- one byte, offered behind so many that are kept: not taken, or taken, and where the reader stands then
+abbrev pub ByteTook : Bool → List ℕ → ℕ → ℕ → List ℕ → List ℕ → ℕ → List ℕ → List ℕ → List ℕ → Option Step → Type 0
+ByteTook traced kept have b room out at kept' room' out' None =
+    Stepped traced (going (take have kept)) b room out at (going (take have kept')) room' out' at true
+ByteTook traced kept have b room out at kept' room' out' (Some step) =
+    Stepped traced (going (take have kept)) b room out at (standing kept' step.stands) room' out' step.said false
+
+abbrev pub ByteWithin : List ℕ → ℕ → Option Step → Type 0
+ByteWithin kept have None = NotWhole kept have
+ByteWithin kept have (Some step) = StandsWithin kept step.stands

@@ -9,14 +9,21 @@ ghost use Rattle.benchlines.specs.Items.{whole_room, unknown_kind};
 ghost use Rattle.intake.specs.Input.{going, ended, whole, cut, behind, stage_of};
 ghost use Rattle.intake.specs.Input.{trace_line, trace_bytes, most_for, lines_for, lines_of};
 ghost use Rattle.intake.specs.Reader.{reader_bytes, have_at, kept_in, stage_in, state_of, reader_of, stage_number, full};
-ghost use Rattle.intake.specs.Reader.{Took, Stepped, end_fits, stage_ended, items_ended, number_at_end, standing, NotWhole};
+ghost use Rattle.intake.specs.Reader.{Took, end_fits, stage_ended, items_ended, number_at_end};
+ghost use Rattle.intake.specs.Reader.{standing, number_at_stand, NotWhole, StandsWithin, ByteTook, ByteWithin};
 
-use lines::{Kind, LONGEST_ITEM, LONGEST_LINE, Outcome};
-use refusals::{CUT_SHORT, UNKNOWN_KIND};
+use lines::{Kind, LONGEST_ITEM, LONGEST_LINE};
+use refusals::Refusal;
 use svn::Svn;
 use text::{put_bytes, put_hex32};
 
+// STORE 17.4: the numbers that an input ends with
+const UNKNOWN_KIND: u8 = Refusal::UnknownKind as u8;
+
+const CUT_SHORT: u8 = Refusal::CutShort as u8;
+
 // the state: room for an item, how many bytes of it are kept, whether the input has ended, and its number
+// kept: bytes in place of a `Stand`, since a reader's state is lent by C
 const HAVE_AT: usize = LONGEST_ITEM;
 
 const ENDED_AT: usize = LONGEST_ITEM + 1;
@@ -29,6 +36,7 @@ pub const READER: usize = LONGEST_ITEM + 3;
 pub const TRACE: usize = 2 + 8 + 1;
 
 // What a part came to: the reader's number, how many bytes of the part were taken, and how many bytes of lines were written.
+// kept: numbers, and a flag below, since C is handed both structs
 #[repr(C)]
 #[derive(Clone, Copy)]
 pub struct Heard {
@@ -46,22 +54,38 @@ pub struct Closed {
     pub said: usize,
 }
 
-// After a byte: how many bytes are kept and written, whether the output is too short, and whether the input has ended.
-#[derive(Drop)]
-struct Step {
-    have: usize,
-    said: usize,
-    full: bool,
-    ended: bool,
+// Where a reader stands: it goes on, with so many bytes of an unfinished item; or the input has ended, with this number.
+#[derive(Clone, Copy)]
+enum Stand {
+    Going(usize),
+    Ended(u8),
 }
 
-// After bytes: how many are kept, written and taken, and whether the input has ended.
-#[derive(Drop)]
+impl Stand {
+    // The reader's number: 0 while it goes on.
+    fn number(self) -> u8
+        ensures { result ≡ number_at_stand self }
+    {
+        match self {
+            Stand::Going(_) => 0,
+            Stand::Ended(number) => number,
+        }
+    }
+}
+
+// After a byte that was taken: where the reader stands, and how many bytes are written.
+#[derive(Clone, Copy)]
+struct Step {
+    stands: Stand,
+    said: usize,
+}
+
+// After bytes: where the reader stands, and how many are written and taken.
+#[derive(Clone, Copy)]
 struct Progress {
-    have: usize,
+    stands: Stand,
     said: usize,
     took: usize,
-    stopped: bool,
 }
 
 // The line that `trace` adds: the Adler-32 of the whole room.
@@ -112,14 +136,7 @@ fn put_cut(room: &[u8], out: &mut [u8], traced: bool) -> usize
     requires { most_for traced ≤ length out.old }
     ensures { Put out.old 0 (lines_for traced cut room.now) out.new result }
 {
-    let next = lines::put_line(
-        out,
-        0,
-        Kind::Unknown,
-        Svn(0),
-        Outcome::Refused(CUT_SHORT),
-        &room[..0],
-    );
+    let next = lines::put_line(out, 0, Kind::Unknown, Svn(0), Err(CUT_SHORT), &room[..0]);
     if traced {
         return put_trace(out, next, room);
     }
@@ -130,19 +147,12 @@ fn put_cut(room: &[u8], out: &mut [u8], traced: bool) -> usize
 fn ends(kind: Kind) -> bool
     ensures { behind kind ≡ cond result (ended unknown_kind) (going []) }
 {
-    match kind {
-        Kind::Word => false,
-        Kind::Tag => false,
-        Kind::Reset => false,
-        Kind::Ced => false,
-        Kind::Timing => false,
-        Kind::Fresh => false,
-        Kind::FreshRuled => false,
-        Kind::Unknown => true,
-    }
+    matches!(kind, Kind::Unknown)
 }
 
-// One byte more. An item that is whole by now is answered, unless its lines might not fit.
+// kept: room, output and `traced` are lent one by one and in no struct, as C lends them and as `Took` speaks of them
+
+// One byte more. An item that is whole by now is answered, unless its lines might not fit: then the byte is not taken.
 fn take_byte(
     room: &mut [u8],
     kept: &mut [u8],
@@ -151,38 +161,34 @@ fn take_byte(
     out: &mut [u8],
     at: usize,
     traced: bool,
-) -> Step
+) -> Option<Step>
     requires { (NotWhole kept.old have) × (at ≤ length out.old) }
-    ensures stepped { Stepped traced (going (take have kept.old)) byte room.old out.old at
-        (standing kept.new result.have result.ended) room.new out.new result.said result.full }
-    ensures not_whole { NotWhole kept.new result.have }
+    ensures stepped { ByteTook traced kept.old have byte room.old out.old at kept.new room.new out.new result }
+    ensures not_whole { ByteWithin kept.new have result }
 {
     kept[have] = byte;
-    let kind = Kind::of(kept[0]);
+    let kind = Kind::from(kept[0]);
     let end = have + 1;
     if have < kind.body() {
-        return Step {
-            have: end,
+        return Some(Step {
+            stands: Stand::Going(end),
             said: at,
-            full: false,
-            ended: false,
-        };
+        });
     }
     if out.len() - at < most(traced) {
-        return Step {
-            have,
-            said: at,
-            full: true,
-            ended: false,
-        };
+        return None;
     }
     let said = put_item(room, kind, &kept[1..end], out, at, traced);
-    Step {
-        have: 0,
-        said,
-        full: false,
-        ended: ends(kind),
+    if ends(kind) {
+        return Some(Step {
+            stands: Stand::Ended(UNKNOWN_KIND),
+            said,
+        });
     }
+    Some(Step {
+        stands: Stand::Going(0),
+        said,
+    })
 }
 
 // More bytes, one after the other: all of them, or those before an item whose lines might not fit.
@@ -197,40 +203,35 @@ fn take_bytes(
     requires { NotWhole kept.old have }
     ensures took { Took traced (going (take have kept.old)) bytes.now room.old out.old
         room.new out.new result.took result.said }
-    ensures stopped_after { standing kept.new result.have result.stopped
+    ensures stopped_after { standing kept.new result.stands
         ≡ stage_of (going (take have kept.old)) (take result.took bytes.now) }
-    ensures not_whole { NotWhole kept.new result.have }
+    ensures not_whole { StandsWithin kept.new result.stands }
 {
     let mut count = have;
     let mut said = 0;
-    let mut i = 0;
-    while i < bytes.len() {
-        let step = take_byte(room, kept, count, bytes[i], out, said, traced);
-        if step.full {
+    for (i, byte) in bytes.iter().enumerate() {
+        let Some(step) = take_byte(room, kept, count, *byte, out, said, traced) else {
             return Progress {
-                have: step.have,
-                said: step.said,
+                stands: Stand::Going(count),
+                said,
                 took: i,
-                stopped: step.ended,
             };
-        }
-        if step.ended {
-            return Progress {
-                have: step.have,
-                said: step.said,
-                took: bytes.len(),
-                stopped: step.ended,
-            };
-        }
-        count = step.have;
+        };
         said = step.said;
-        i += 1;
+        let Stand::Going(more) = step.stands else {
+            return Progress {
+                stands: step.stands,
+                said,
+                took: bytes.len(),
+            };
+        };
+        count = more;
     }
+    let stands = Stand::Going(count);
     Progress {
-        have: count,
+        stands,
         said,
-        took: i,
-        stopped: false,
+        took: bytes.len(),
     }
 }
 
@@ -240,11 +241,23 @@ fn kept_in(reader: &[u8]) -> usize
     ensures { (take result reader.now ≡ kept_in (take (get_or reader.now have_at 0) reader.now))
         × (result ≤ body_length (kind_of (get_or reader.now 0 0))) }
 {
-    let have = numbers::as_usize(reader[HAVE_AT]);
-    if have > Kind::of(reader[0]).body() {
+    let have = usize::from(reader[HAVE_AT]);
+    if have > Kind::from(reader[0]).body() {
         return 0;
     }
     have
+}
+
+// Where a state's bytes say that its reader stands.
+fn stands_in(reader: &[u8]) -> Stand
+    requires { length reader.now ≡ reader_bytes }
+    ensures stands { standing reader.now result ≡ stage_in reader.now }
+    ensures not_whole { StandsWithin reader.now result }
+{
+    if reader[ENDED_AT] != 0 {
+        return Stand::Ended(reader[NUMBER_AT]);
+    }
+    Stand::Going(kept_in(reader))
 }
 
 fn kept_byte(byte: u8, i: usize, have: usize) -> u8
@@ -262,13 +275,22 @@ fn keep(reader: &mut [u8], have: usize, end: u8, number: u8)
     requires { (length reader.old ≡ reader_bytes) × (have < longest_item) }
     ensures { reader.new ≡ state_of (take have reader.old) end number }
 {
-    let mut i = 0;
-    while i < LONGEST_ITEM {
+    for i in 0..LONGEST_ITEM {
         reader[i] = kept_byte(reader[i], i, have);
-        i += 1;
     }
     let tail = [have as u8, end, number];
     put_bytes(reader, HAVE_AT, &tail);
+}
+
+// The state of a reader that stands there.
+fn leave(reader: &mut [u8], stands: Stand)
+    requires { (length reader.old ≡ reader_bytes) × (StandsWithin reader.old stands) }
+    ensures { reader.new ≡ reader_of (standing reader.old stands) }
+{
+    match stands {
+        Stand::Going(have) => keep(reader, have, 0, 0),
+        Stand::Ended(number) => keep(reader, 0, 1, number),
+    }
 }
 
 // A part of an input. It is taken whole, but for an item whose lines might not fit into the output and what stands behind it: the caller
@@ -286,37 +308,23 @@ pub fn part(
     ensures reader_after { reader.new ≡ reader_of (stage_of (stage_in reader.old) (take result.took bytes.now)) }
     ensures number_value { result.number ≡ stage_number (stage_of (stage_in reader.old) (take result.took bytes.now)) }
 {
-    if reader[ENDED_AT] != 0 {
-        let number = reader[NUMBER_AT];
-        keep(reader, 0, 1, number);
-        return Heard {
-            number,
-            took: bytes.len(),
+    let progress = match stands_in(reader) {
+        Stand::Going(have) => take_bytes(room, reader, have, bytes, out, traced),
+        Stand::Ended(number) => Progress {
+            stands: Stand::Ended(number),
             said: 0,
-        };
-    }
-    let have = kept_in(reader);
-    let progress = take_bytes(room, reader, have, bytes, out, traced);
-    let took = progress.took;
-    let said = progress.said;
-    if progress.stopped {
-        keep(reader, 0, 1, UNKNOWN_KIND);
-        return Heard {
-            number: UNKNOWN_KIND,
-            took,
-            said,
-        };
-    }
-    keep(reader, progress.have, 0, 0);
+            took: bytes.len(),
+        },
+    };
+    leave(reader, progress.stands);
     Heard {
-        number: 0,
-        took,
-        said,
+        number: progress.stands.number(),
+        took: progress.took,
+        said: progress.said,
     }
 }
 
 // The end of the input. Where an item is unfinished it is 14 and prints a line; while that might not fit it is not taken, and 14 too.
-#[tactic(auto, unfolding(crate::specs::Reader::reader_of, crate::specs::Reader::stage_ended, crate::specs::Reader::items_ended, crate::specs::Reader::end_fits, crate::specs::Input::items_at_end, crate::specs::Input::stage_at_end, crate::specs::Input::lines_of))]
 pub fn end(reader: &mut [u8; READER], room: &[u8], out: &mut [u8], traced: bool) -> Closed
     ensures reader_after { reader.new ≡ reader_of (stage_ended traced out.old (stage_in reader.old)) }
     ensures number_value { (result.number ≡ number_at_end (stage_in reader.old))
@@ -325,19 +333,20 @@ pub fn end(reader: &mut [u8; READER], room: &[u8], out: &mut [u8], traced: bool)
         (lines_of traced room.now (items_ended traced out.old (stage_in reader.old)))
         out.new result.said }
 {
-    let ended = reader[ENDED_AT];
-    if ended != 0 {
-        let before = reader[NUMBER_AT];
-        keep(reader, 0, 1, before);
-        return Closed {
-            number: before,
-            taken: true,
-            said: 0,
-        };
-    }
-    let have = kept_in(reader);
+    let stands = stands_in(reader);
+    let have = match stands {
+        Stand::Going(have) => have,
+        Stand::Ended(number) => {
+            leave(reader, stands);
+            return Closed {
+                number,
+                taken: true,
+                said: 0,
+            };
+        }
+    };
     if have == 0 {
-        keep(reader, 0, 1, 0);
+        leave(reader, Stand::Ended(0));
         return Closed {
             number: 0,
             taken: true,
@@ -345,7 +354,7 @@ pub fn end(reader: &mut [u8; READER], room: &[u8], out: &mut [u8], traced: bool)
         };
     }
     if out.len() < most(traced) {
-        keep(reader, have, 0, 0);
+        leave(reader, stands);
         return Closed {
             number: CUT_SHORT,
             taken: false,
@@ -353,7 +362,7 @@ pub fn end(reader: &mut [u8; READER], room: &[u8], out: &mut [u8], traced: bool)
         };
     }
     let said = put_cut(room, out, traced);
-    keep(reader, 0, 1, CUT_SHORT);
+    leave(reader, Stand::Ended(CUT_SHORT));
     Closed {
         number: CUT_SHORT,
         taken: true,

@@ -1,4 +1,4 @@
--- The last length by what it is not. Assumes nothing.
+-- The last length by what it is not (docs/TRACE.md, 11.1: the check finds `length_allowed` without it). Assumes nothing.
 use mathlib.Core.Path.{◌≡◌}
 use Prim.Native.Nat.{ℕ}
 use borrow.Author.Tests.{ne_eqb}

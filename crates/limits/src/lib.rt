@@ -1,4 +1,5 @@
 // Which numbers a call takes: the sizes of a store, and the numbers that come with a tag. Each test is of its numbers alone.
+// kept: bands, kinds, statuses and rules are numbers, as C hands them in and as the definitions test them, the wrong ones too
 #![tactic(auto)]
 
 ghost use Rattle.std.specs.Prelude.{◌≡◌, not, ◌&&◌, leb};
@@ -24,16 +25,7 @@ const SLOW_CED_KIND: u8 = 12;
 pub fn sizes_allowed(d: u8, n: u8) -> bool
     ensures { result ≡ sizes_allowed d n }
 {
-    if d < 1 {
-        return false;
-    }
-    if d > MOST_ROWS {
-        return false;
-    }
-    if n < 1 {
-        return false;
-    }
-    n <= MOST_SLOTS
+    (1..=MOST_ROWS).contains(&d) && (1..=MOST_SLOTS).contains(&n)
 }
 
 // STORE 7.7: the ageing rules
@@ -47,13 +39,10 @@ pub fn rule_known(rule: u8) -> bool
 pub fn fresh_allowed(d: u8, n: u8, rule: u8) -> bool
     ensures { result ≡ (sizes_allowed d n && rule_known rule) }
 {
-    if !sizes_allowed(d, n) {
-        return false;
-    }
-    rule_known(rule)
+    sizes_allowed(d, n) && rule_known(rule)
 }
 
-// STORE 5.3: the bands
+// STORE 5.3: the bands. kept: it says when one is refused, not when it is known, as the compiled calls want it (docs/DECISIONS.md)
 pub fn band_unknown(band: u8) -> bool
     ensures { not result ≡ leb band 1 }
 {
@@ -64,13 +53,7 @@ pub fn band_unknown(band: u8) -> bool
 pub fn kind_known(kind: u8) -> bool
     ensures { result ≡ kind_known kind }
 {
-    if kind == CED_KIND {
-        return true;
-    }
-    if kind == TIMING_KIND {
-        return true;
-    }
-    kind == SLOW_CED_KIND
+    matches!(kind, CED_KIND | TIMING_KIND | SLOW_CED_KIND)
 }
 
 // STORE 11.1: the COPs
@@ -85,19 +68,7 @@ pub fn cop_allowed(cop: u8) -> bool
 pub fn length_allowed(bits: u8) -> bool
     ensures { result ≡ length_allowed bits }
 {
-    if bits == 20 {
-        return true;
-    }
-    if bits == 24 {
-        return true;
-    }
-    if bits == 28 {
-        return true;
-    }
-    if bits == 32 {
-        return true;
-    }
-    bits == 40
+    matches!(bits, 20 | 24 | 28 | 32 | 40)
 }
 
 // STORE 11.1: the statuses
@@ -111,28 +82,19 @@ pub fn status_known(status: u8) -> bool
 pub fn status_adds(status: u8) -> bool
     ensures { result ≡ status_adds status }
 {
-    if status == 1 {
-        return true;
-    }
-    status == 2
+    matches!(status, 1 | 2)
 }
 
 // 8: COP or tag length not allowed
 pub fn tag_allowed(cop: u8, bits: u8) -> bool
     ensures { result ≡ (cop_allowed cop && length_allowed bits) }
 {
-    if !cop_allowed(cop) {
-        return false;
-    }
-    length_allowed(bits)
+    cop_allowed(cop) && length_allowed(bits)
 }
 
 // 9: kind or status unknown
 pub fn tag_known(kind: u8, status: u8) -> bool
     ensures { result ≡ (kind_known kind && status_known status) }
 {
-    if !kind_known(kind) {
-        return false;
-    }
-    status_known(status)
+    kind_known(kind) && status_known(status)
 }

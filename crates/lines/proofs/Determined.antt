@@ -4,12 +4,12 @@ use borrow.Fn.Kinds.{res_t, ended_of, Dens}
 use denote.Triple.Clauses.{AtExit}
 use contract.Lifetimes.{Lfts}
 use Rattle.text.proofs.Puts.{put_one}
-use Rattle.lines.proofs.Kind.of.Reads as kind_of_reads
-use Rattle.lines.proofs.Kind.of.Kinds as kind_of_kinds
+use Rattle.lines.proofs.KindFromU8.from.Reads as kind_of_reads
+use Rattle.lines.proofs.KindFromU8.from.Kinds as kind_of_kinds
 use Rattle.lines.proofs.Kind.body.Reads as body_Reads
 use Rattle.lines.proofs.Kind.body.Kinds as body_kinds
-use Rattle.lines.proofs.Outcome.number.Reads as number_reads
-use Rattle.lines.proofs.Outcome.number.Kinds as number_kinds
+use Rattle.lines.proofs.number_of.Reads as number_reads
+use Rattle.lines.proofs.number_of.Kinds as number_kinds
 use Rattle.lines.proofs.put_line.Reads as put_line_reads
 use Rattle.lines.proofs.put_line.Kinds as put_line_kinds
 

@@ -1,12 +1,12 @@
 -- STORE 17.3: the line that says an answer.
-use Rattle.std.specs.Prelude.{ℕ, ◌+◌, ◌*◌, List, [], ◌∷◌, ◌++◌}
+use Rattle.std.specs.Prelude.{ℕ, ◌+◌, ◌*◌, List, [], ◌∷◌, ◌++◌, Result, Ok, Err}
 use Rattle.paper.specs.Number.{Answer, done, refused, number, values}
 use Rattle.paper.specs.Satellite.{letters_of}
 use Rattle.paper.specs.Record.{CED, data_bytes}
 use Rattle.text.specs.Text.{most_digits, decimal, hex_of}
 use Rattle.lines.specs.declared.Kind.{Kind}
-use Rattle.lines.specs.declared.Outcome.{Outcome}
-use Rattle.lines.specs.declared.Outcome.TheVariants.{Refused, Done, Total, Reading}
+use Rattle.lines.specs.declared.Said.{Said}
+use Rattle.lines.specs.declared.Said.TheVariants.{Done, Total, Reading}
 use Rattle.lines.specs.Kinds.{letter_of}
 
 -- the most bytes of a number behind its space, of three, of a satellite, and of what stands behind 0 beside so many bytes of data
@@ -26,12 +26,15 @@ most_reading bytes = most_satellite + most_numbers + (1 + 2 * bytes)
 abbrev pub longest_line : ℕ
 longest_line = 2 + most_digits + most_reading (data_bytes CED) + 1
 
--- STORE 14.5: 0 with its values, or the number of the refusal
-abbrev pub outcome_answer : Outcome → Answer
-outcome_answer (Refused k) = refused k
-outcome_answer Done = done []
-outcome_answer (Total n) = done (n ∷ [])
-outcome_answer (Reading count gst) = done (count ∷ gst.wn.0 ∷ gst.tow.0 ∷ [])
+-- STORE 14.5: what is said beside 0, and 0 with these values, or the number of the refusal
+abbrev pub said_values : Said → List ℕ
+said_values Done = []
+said_values (Total n) = n ∷ []
+said_values (Reading count gst) = count ∷ gst.wn.0 ∷ gst.tow.0 ∷ []
+
+abbrev pub outcome_answer : Result Said ℕ → Answer
+outcome_answer (Ok s) = done (said_values s)
+outcome_answer (Err k) = refused k
 
 -- a number behind a space
 abbrev pub spaced : ℕ → List ℕ

@@ -44,28 +44,30 @@ pub enum Kind {
     Timing,
     Fresh,
     FreshRuled,
+    // kept: no Option around the kinds, since what is unknown has a letter, a body and a line as the others have (STORE 17.4)
     Unknown,
 }
 
-// An answer before it is text.
+// What a call says beside its 0.
 #[derive(Clone, Copy)]
-pub enum Outcome {
-    // the number of the refusal
-    Refused(u8),
-    // 0, with nothing beside it
+pub enum Said {
+    // nothing
     Done,
-    // 0, with how many records took a tag
+    // how many records took a tag
     Total(u32),
-    // 0, with a count and a time
+    // a count and a time
     Reading(u16, Gst),
 }
 
-impl Kind {
+// An answer before it is text. kept: a refusal is its number here, since `put_line` and `number_of` promise what they do of any number
+pub type Outcome = Result<Said, u8>;
+
+impl From<u8> for Kind {
+    ghost from_gives = { λ byte kind. kind ≡ kind_of byte };
+
     // What an item asks for, by its kind byte.
     #[tactic(auto, unfolding(crate::specs::Kinds::kind_of))]
-    pub fn of(byte: u8) -> Kind
-        ensures { result ≡ kind_of byte }
-    {
+    fn from(byte: u8) -> Kind {
         match byte {
             1 => Kind::Word,
             2 => Kind::Tag,
@@ -77,7 +79,9 @@ impl Kind {
             _ => Kind::Unknown,
         }
     }
+}
 
+impl Kind {
     // The length of its body.
     pub fn body(self) -> usize
         ensures { result ≡ body_length self }
@@ -110,19 +114,17 @@ impl Kind {
     }
 }
 
-impl Outcome {
-    // The number of STORE 14.1.
-    pub fn number(self) -> u8
-        ensures { result ≡ number (outcome_answer self) }
-    {
-        match self {
-            Outcome::Refused(number) => number,
-            Outcome::Done => 0,
-            Outcome::Total(_) => 0,
-            Outcome::Reading(_, _) => 0,
-        }
+// The number of STORE 14.1.
+pub fn number_of(outcome: Outcome) -> u8
+    ensures { result ≡ number (outcome_answer outcome) }
+{
+    match outcome {
+        Ok(_) => 0,
+        Err(number) => number,
     }
 }
+
+// kept: `out` and `at` are two parameters and no struct, since `Put`, by which every line is promised, speaks of lent bytes and a place
 
 // A space and a number.
 fn put_spaced(out: &mut [u8], at: usize, x: u32) -> usize
@@ -141,8 +143,8 @@ fn put_numbers(out: &mut [u8], at: usize, count: u16, gst: Gst) -> usize
 {
     let week = gst.wn.0;
     let time = gst.tow.0;
-    let counted = put_spaced(out, at, count as u32);
-    let dated = put_spaced(out, counted, week as u32);
+    let counted = put_spaced(out, at, u32::from(count));
+    let dated = put_spaced(out, counted, u32::from(week));
     put_spaced(out, dated, time)
 }
 
@@ -186,10 +188,10 @@ fn put_values(out: &mut [u8], at: usize, svn: Svn, outcome: Outcome, data: &[u8]
         × (result ≤ at + most_reading (length «data».now)) }
 {
     match outcome {
-        Outcome::Refused(_) => at,
-        Outcome::Done => at,
-        Outcome::Total(records) => put_spaced(out, at, records),
-        Outcome::Reading(count, gst) => put_reading(out, at, svn, count, gst, data),
+        Err(_) => at,
+        Ok(Said::Done) => at,
+        Ok(Said::Total(records)) => put_spaced(out, at, records),
+        Ok(Said::Reading(count, gst)) => put_reading(out, at, svn, count, gst, data),
     }
 }
 
@@ -209,7 +211,7 @@ pub fn put_line(
 {
     let letter = kind.letter();
     let lettered = put_bytes(out, at, &letter);
-    let numbered = put_decimal(out, lettered, outcome.number() as u32);
+    let numbered = put_decimal(out, lettered, u32::from(number_of(outcome)));
     let said = put_values(out, numbered, svn, outcome, data);
     put_bytes(out, said, b"\n")
 }

@@ -1,5 +1,9 @@
 -- The promises of `lookup` are tight: any two answers that a contract permits are equal.
+use mathlib.Core.Bool.{Bool}
 use mathlib.Core.Path.{◌≡◌, sym, ◌∙◌}
+use Prim.Native.Nat.{ℕ, ◌<◌}
+use Rattle.std.specs.Prelude.{Option}
+use Rattle.lookup.specs.Found.{FindsFirst}
 use borrow.Fn.Kinds.{res_t, ended_of, Dens}
 use denote.Triple.Clauses.{AtExit}
 use contract.Lifetimes.{Lfts}
@@ -43,3 +47,10 @@ pub candidate_at_determined :
     (e e' : AtExit (ended_of 1 candidate_at_kinds.ps candidate_at_kinds.r) κs)
     → candidate_at_reads.Post κs a r e → candidate_at_reads.Post κs a r' e' → r ≡ r'
 candidate_at_determined κs a r r' e e' p q = p ∙ sym q
+
+-- what `first` promises of a question that each number below n has one answer to
+pub first_determined :
+    (answered : ℕ → Bool → Type 0) (n : ℕ) (p : ℕ → Bool) →
+    ((i : ℕ) (b : Bool) → i < n → answered i b → b ≡ p i) →
+    (r r' : Option ℕ) → FindsFirst answered n r → FindsFirst answered n r' → r ≡ r'
+first_determined answered n p says r r' a b = a p says ∙ sym (b p says)

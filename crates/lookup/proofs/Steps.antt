@@ -11,8 +11,7 @@ use Rattle.paper.specs.Record.{Family, size}
 use Rattle.paper.specs.Room.{depth, slots, row_at, row_of, record_at, record_of}
 use Rattle.paper.specs.Tag.{first_slot, fits_cop}
 use Rattle.paper.specs.Store.{InRange}
-use Rattle.lookup.specs.declared.Found.{Found}
-use Rattle.lookup.specs.declared.Found.TheVariants.{At, Nothing}
+use Rattle.std.specs.Prelude.{Option, Some, None}
 use Rattle.lookup.specs.Found.{found}
 use Rattle.lookup.specs.Candidate.{place_of, candidate_in}
 use Rattle.lookup.proofs.Search.{found_at, found_not}
@@ -27,19 +26,19 @@ pub record Looked (room : List ℕ) (r n : ℕ) (row : List ℕ) : Type 0 where
 
 module _ {room : List ℕ} {r n : ℕ} {row : List ℕ} (s : Looked room r n row) where
   -- the slot that is looked for in it
-  module _ (f : Family) (sat cop : ℕ) {a : Found} (ea : a ≡ found n (first_slot f sat n row)) where
+  module _ (f : Family) (sat cop : ℕ) {a : Option ℕ} (ea : a ≡ found n (first_slot f sat n row)) where
     abbrev slot : ℕ
     slot = first_slot f sat (slots room) (row_of r room)
 
     answer : a ≡ found (slots room) slot
     answer = ea ∙ rw (s.is, s.count)
 
-    pub in_none : a ≡ Nothing → Nothing ≡ candidate_in f sat cop r room
+    pub in_none : a ≡ None → None ≡ candidate_in f sat cop r room
     unfolding candidate_in
     in_none e = rw (found_not (slots room) slot (sym answer ∙ e))
 
     -- and found
-    module _ {x : ℕ} (ex : a ≡ At x) where
+    module _ {x : ℕ} (ex : a ≡ Some x) where
       is_slot : (x ≡ slot) × (slot < slots room)
       is_slot = found_at (slots room) slot x (sym answer ∙ ex)
 
@@ -56,10 +55,10 @@ module _ {room : List ℕ} {r n : ℕ} {row : List ℕ} (s : Looked room r n row
         is_record : part (start + at) (size f) room ≡ record_of f slot (row_of r room)
         is_record = rw is_place (place_record f r slot room is_slot.1)
 
-        pub in_unfit : fits_cop f cop (part (start + at) (size f) room) ≡ false → Nothing ≡ candidate_in f sat cop r room
+        pub in_unfit : fits_cop f cop (part (start + at) (size f) room) ≡ false → None ≡ candidate_in f sat cop r room
         unfolding candidate_in
         in_unfit e = rw (lt-ltb slot (slots room) is_slot.1, ← is_record, e)
 
-        pub in_fit : fits_cop f cop (part (start + at) (size f) room) ≡ true → At (start + at) ≡ candidate_in f sat cop r room
+        pub in_fit : fits_cop f cop (part (start + at) (size f) room) ≡ true → Some (start + at) ≡ candidate_in f sat cop r room
         unfolding candidate_in
-        in_fit e = rw (lt-ltb slot (slots room) is_slot.1, ← is_record, e) (ap At is_place)
+        in_fit e = rw (lt-ltb slot (slots room) is_slot.1, ← is_record, e) (ap Some is_place)

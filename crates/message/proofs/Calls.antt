@@ -3,7 +3,7 @@
 use mathlib.Core.Bool.{Bool, true, false, cond, not, ◌||◌}
 use mathlib.Core.List.{List, [], ◌∷◌}
 use mathlib.Core.Path.{◌≡◌, refl, sym, ap, ◌∙◌}
-use Prim.Native.Nat.{ℕ, ◌+◌, ◌-◌, ◌≤◌}
+use Prim.Native.Nat.{ℕ, ◌+◌, ◌≤◌}
 use native.Mathlib.Omega.{arith}
 use borrow.Author.Tests.{leb-true, le-leb, eq-eqb, ne_eqb, eqb-false}
 use lib.Dec.{eqb, leb}
@@ -16,7 +16,8 @@ use Rattle.paper.specs.Record.{record_bits, data_bytes, same_bits}
 use Rattle.paper.specs.Field.{bits_at}
 use Rattle.paper.specs.Tag.{status_known}
 use Rattle.paper.specs.Message.{Head, is_tag_zero, form_known, form_family, prnd_width, head_width, message_bytes, message, satellites_read, head_values}
-use Rattle.paper.specs.Message.{carried, clean, most_week, counter_allowed, read_head, read_data, padding_of, build_number, build_answer, build_buffer, read_number, read_answer, read_buffer, bits_from}
+use Rattle.paper.specs.Message.{carried, clean, most_week, counter_allowed, read_head, read_data, padding_of, bits_from}
+use Rattle.paper.specs.Message.{build_number, build_answer, build_buffer, read_number, read_answer, read_buffer}
 use Rattle.paper.proofs.Order.{unless_zero}
 use Rattle.paper.proofs.StoreFacts.{both_true, true_both}
 use Rattle.paper.proofs.Fields.{bits_small}

@@ -1,4 +1,5 @@
 -- What the proofs of several functions need, and what is proved over the contracts.
+pub mod Forms
 pub mod Sizes
 pub mod Joined
 pub mod Passed

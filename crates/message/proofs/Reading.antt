@@ -1,8 +1,8 @@
 -- What `read` does: its refusals in their order, the fields of the head's number, the padding, and the data. Assumes nothing.
 use mathlib.Core.Bool.{Bool, true, false, cond, not}
-use mathlib.Core.List.{List, [], ◌++◌}
+use mathlib.Core.List.{List, [], ◌∷◌, ◌++◌}
 use mathlib.Core.Path.{◌≡◌, refl, sym, ap, ◌∙◌}
-use Prim.Native.Nat.{ℕ, zero, ◌+◌, ◌-◌, ◌*◌, ◌/◌, ◌%◌, ◌^◌, ◌≤◌, ◌<◌}
+use Prim.Native.Nat.{ℕ, ◌+◌, ◌-◌, ◌*◌, ◌/◌, ◌%◌, ◌^◌, ◌≤◌, ◌<◌}
 use native.Mathlib.Nat.{lt_of_lt_of_le, add-zero}
 use native.Mathlib.Omega.{arith}
 use borrow.Author.Tests.{leb-true, eqb-true, eqb-false, eq-eqb, ne_eqb}
@@ -20,13 +20,12 @@ use Rattle.paper.proofs.Order.{unless_zero}
 use Rattle.paper.proofs.Parts.{part_back}
 use Rattle.paper.proofs.StoreFacts.{both_true}
 use Rattle.paper.proofs.Fields.{bits_small, bits_join, bits_inside}
-use Rattle.refusals.specs.Reply.{refusal_number, reply_answer}
+use Rattle.refusals.specs.Reply.{refusal_number}
 use Rattle.refusals.specs.declared.Refusal.{Refusal}
-use Rattle.refusals.specs.declared.Reply.{Reply}
-use Rattle.refusals.specs.declared.Reply.TheVariants.{Refused}
-use Rattle.refusals.proofs.Answers.{done_room, refused_number, refused_room, answer_refused, above_zero}
+use Rattle.refusals.proofs.Answers.{done_number, done_room, refused_number, refused_room, answer_refused, above_zero}
 use Rattle.message.specs.Heads.{head_from}
 use Rattle.message.specs.Outcome.{well_long, lengths_number, fields_number}
+use Rattle.message.proofs.Forms.{passed, same_form}
 use Rattle.message.proofs.Sizes.{head_bytes_and_two, head_most, data_but_three, data_least, data_most, bytes_sum, one_left}
 
 -- ---- the order: the lengths, then the fields, then the padding
@@ -78,22 +77,20 @@ module _ (form : ℕ) (m buffer : List ℕ) where
         refused_room k (read_number form m buffer) v (on_part (λ (_ : List ℕ). read_data form m) 0 (data_bytes (form_family form)) buffer) buffer (sym a),
       )
 
-  pub lengths_refuse : (r : Reply) (w : Refusal) → r ≡ Refused w → reply_answer r ≡ answer (lengths_number form m buffer) []
+  pub lengths_refused : (w : Refusal) → refused (refusal_number w) ≡ answer (lengths_number form m buffer) (form ∷ [])
       → (refused (refusal_number w) ≡ read_answer form m buffer) × (buffer ≡ read_buffer form m buffer)
-  lengths_refuse r w q e =
-      let k : lengths_number form m buffer ≡ refusal_number w = refused_number (refusal_number w) _ [] (ap reply_answer (sym q) ∙ e) in
+  lengths_refused w said =
+      let k : lengths_number form m buffer ≡ refusal_number w = refused_number (refusal_number w) _ (form ∷ []) said in
       not_read (refusal_number w) (above_zero w) (read_order form m buffer ∙ rw k (stops (refusal_number w) _ (above_zero w)))
 
-  pub fields_refuse : lengths_number form m buffer ≡ 0 → (h : Head) → h ≡ read_head form m
-      → (r : Reply) (w : Refusal) → r ≡ Refused w → reply_answer r ≡ answer (fields_number form h) []
+  fields_refuse : lengths_number form m buffer ≡ 0 → (w : Refusal) → refused (refusal_number w) ≡ answer (fields_number form (read_head form m)) []
       → (refused (refusal_number w) ≡ read_answer form m buffer) × (buffer ≡ read_buffer form m buffer)
-  fields_refuse z h eh r w q e =
-      let k : fields_number form (read_head form m) ≡ refusal_number w =
-      ap (fields_number form) (sym eh) ∙ refused_number (refusal_number w) _ [] (ap reply_answer (sym q) ∙ e) in
+  fields_refuse z w said =
+      let k : fields_number form (read_head form m) ≡ refusal_number w = refused_number (refusal_number w) _ [] said in
       not_read (refusal_number w) (above_zero w)
       (read_order form m buffer ∙ goes_on (lengths_number form m buffer) _ z ∙ rw k (stops (refusal_number w) _ (above_zero w)))
 
-  pub padding_refuse : lengths_number form m buffer ≡ 0 → fields_number form (read_head form m) ≡ 0 → (padding_of form m ≡ 0 → ⊥)
+  padding_refuse : lengths_number form m buffer ≡ 0 → fields_number form (read_head form m) ≡ 0 → (padding_of form m ≡ 0 → ⊥)
       → (refused 26 ≡ read_answer form m buffer) × (buffer ≡ read_buffer form m buffer)
   padding_refuse z f n =
       let p : unless (eqb (padding_of form m) 0) 26 0 ≡ 26 = rw (ne_eqb (padding_of form m) 0 n) in
@@ -122,15 +119,10 @@ module _ (form : ℕ) (m buffer : List ℕ) where
       (eqb-true (length m) (message_bytes form) c.0, leb-true (data_bytes (form_family form)) (length buffer) c.1)
 
   -- ---- the head
-  pub head_asks : lengths_number form m buffer ≡ 0 → (k : ℕ) → k ≡ head_width form / 8 → (k < length m) × (k ≤ 7)
-  head_asks z k e =
-      let p = lengths_passed z in
-      (omega (arith, p.0, bytes_sum form, data_least form), omega (arith, head_most form))
-
   number_is : (k n : ℕ) → k ≡ head_width form / 8 → n ≡ bits_at m 0 (8 * k + 2) → n ≡ bits_at m 0 (head_width form)
   number_is k n ek en = en ∙ ap (bits_at m 0) (rw ek (sym (head_bytes_and_two form)))
 
-  pub head_below : (k n : ℕ) → k ≡ head_width form / 8 → n ≡ bits_at m 0 (8 * k + 2) → n < 2 ^ 58
+  head_below : (k n : ℕ) → k ≡ head_width form / 8 → n ≡ bits_at m 0 (8 * k + 2) → n < 2 ^ 58
   head_below k n ek en =
       rw (number_is k n ek en)
       (lt_of_lt_of_le (bits_small m 0 (head_width form)) (pow_mono {i = head_width form} {j = 58} (omega (arith, head_bytes_and_two form, head_most form))))
@@ -165,7 +157,7 @@ module _ (form : ℕ) (m buffer : List ℕ) where
       go o = rw (first o, (cut o 0 8 42 (omega arith) ∙ ap (λ (x : ℕ). bits_at m x 8) (add-zero o)), cut o 8 12 30 (omega arith), cut o 20 20 10 (omega arith), cut o 40 8 2 (omega arith), last o)
 
   -- ---- the padding is the last bit
-  pub padding_bit : lengths_number form m buffer ≡ 0 → get_or m (length m - 1) 0 % 2 ≡ padding_of form m
+  padding_bit : lengths_number form m buffer ≡ 0 → get_or m (length m - 1) 0 % 2 ≡ padding_of form m
   unfolding bits_at
   padding_bit z =
       let p = lengths_passed z in
@@ -174,30 +166,76 @@ module _ (form : ℕ) (m buffer : List ℕ) where
       let r : (head_width form + record_bits (form_family form) + 0) % 8 ≡ 7 = omega (arith, one_left form) in
       rw (one, j, r) (omega arith)
 
-  -- ---- the data
-  pub body_asks : lengths_number form m buffer ≡ 0 → (k d : ℕ) → k ≡ head_width form / 8 → d ≡ data_bytes (form_family form)
-      → (length m ≡ k + length (take (d - 0) buffer)) × (1 ≤ length (take (d - 0) buffer)) × (length (take (d - 0) buffer) ≤ 255) × (k ≤ 7)
-  body_asks z k d ek ed =
-      let p = lengths_passed z in
-      let l : length (take (d - 0) buffer) ≡ d = length-take (d - 0) buffer ∙ omega (arith, p.1) in
-      (omega (arith, l, p.0, bytes_sum form), omega (arith, l, data_least form), omega (arith, l, data_most form), omega (arith, head_most form))
+  -- ---- the call: its tests hand out the number f as the form's
+  module _ (f : ℕ) (said : done (f ∷ []) ≡ answer (lengths_number form m buffer) (form ∷ [])) where
+    right : lengths_number form m buffer ≡ 0
+    right = passed f (lengths_number form m buffer) form said
 
-  pub was_read : lengths_number form m buffer ≡ 0 → fields_number form (read_head form m) ≡ 0 → padding_of form m ≡ 0
-      → (h : Head) → h ≡ read_head form m → (k d : ℕ) (y l : List ℕ) → k ≡ head_width form / 8 → d ≡ data_bytes (form_family form)
-      → y ≡ in_bytes (length (take (d - 0) buffer)) (bits_from m (8 * k + 2) (8 * length (take (d - 0) buffer) - 3))
-      → l ≡ y ++ drop (d - 0) buffer
-      → (done (head_values h) ≡ read_answer form m buffer) × (l ≡ read_buffer form m buffer)
-  unfolding read_answer read_buffer read_data
-  was_read z f pz h eh k d y l ek ed ey el =
-      let p = lengths_passed z in
-      let zero = read_zero z f pz in
-      let long : length (take (d - 0) buffer) ≡ data_bytes (form_family form) = length-take (d - 0) buffer ∙ omega (arith, p.1) in
-      let w : 8 * k + 2 ≡ head_width form = rw ek (sym (head_bytes_and_two form)) in
-      let n : 8 * data_bytes (form_family form) - 3 ≡ record_bits (form_family form) = sym (data_but_three form) in
-      let same : d - 0 ≡ data_bytes (form_family form) = omega arith in
-      let data_is : y ≡ read_data form m = ey ∙ rw (long, w, n) in (
-        rw (zero, eh),
-        el
-            ∙ part_back (λ (_ : List ℕ). read_data form m) 0 (data_bytes (form_family form)) (d - 0) buffer y same data_is
-            ∙ done_room (read_number form m buffer) (on_part (λ (_ : List ℕ). read_data form m) 0 (data_bytes (form_family form)) buffer) buffer zero,
-      )
+    same : f ≡ form
+    same = same_form f (lengths_number form m buffer) form said
+
+    long : (length m ≡ message_bytes form) × (data_bytes (form_family form) ≤ length buffer)
+    long = lengths_passed right
+
+    pub some_bytes : 1 ≤ length m
+    some_bytes = omega (arith, long.0, bytes_sum form, data_least form)
+
+    pub room_is_there : (d : ℕ) → d ≡ data_bytes (form_family f) → d ≤ length buffer
+    room_is_there d ed = let e : d ≡ data_bytes (form_family form) = rw same at ed in omega (arith, long.1)
+
+    pub room_is_long : (d : ℕ) → d ≡ data_bytes (form_family f) → d ≡ length (take d buffer)
+    room_is_long d ed = omega (arith, length-take d buffer, room_is_there d ed)
+
+    module _ (k : ℕ) (ek : k ≡ head_width f / 8) where
+      its : k ≡ head_width form / 8
+      its = rw same at ek
+
+      pub head_asks : (k < length m) × (k ≤ 7)
+      head_asks = (omega (arith, its, long.0, bytes_sum form, data_least form), omega (arith, its, head_most form))
+
+      pub body_asks : (d : ℕ) → d ≡ data_bytes (form_family f)
+          → (length m ≡ k + length (take d buffer)) × (1 ≤ length (take d buffer)) × (length (take d buffer) ≤ 255) × (k ≤ 7)
+      body_asks d ed =
+          let e : d ≡ data_bytes (form_family form) = rw same at ed in
+          let l = room_is_long d ed in
+          (omega (arith, its, l, long.0, bytes_sum form), omega (arith, l, data_least form), omega (arith, l, data_most form), omega (arith, its, head_most form))
+
+      module _ (n : ℕ) (en : n ≡ bits_at m 0 (8 * k + 2)) where
+        pub number_below : n < 2 ^ 58
+        number_below = head_below k n its en
+
+        module _ (h : Head) (eh : h ≡ head_from n) where
+          fields : h ≡ read_head form m
+          fields = head_read k n h its en eh
+
+          pub fields_refused : (w : Refusal) → refused (refusal_number w) ≡ answer (fields_number f h) []
+              → (refused (refusal_number w) ≡ read_answer form m buffer) × (buffer ≡ read_buffer form m buffer)
+          fields_refused w says = fields_refuse right w (rw (same, fields) at says)
+
+          module _ (fit : done [] ≡ answer (fields_number f h) []) where
+            fields_right : fields_number form (read_head form m) ≡ 0
+            fields_right = done_number (fields_number form (read_head form m)) [] [] (rw (same, fields) at fit)
+
+            pub padding_refused : (get_or m (length m - 1) 0 % 2 ≡ 0 → ⊥) → (refused 26 ≡ read_answer form m buffer) × (buffer ≡ read_buffer form m buffer)
+            padding_refused n = padding_refuse right fields_right (λ p. n (padding_bit right ∙ p))
+
+            pub was_read : get_or m (length m - 1) 0 % 2 ≡ 0 → (d : ℕ) (y l : List ℕ) → d ≡ data_bytes (form_family f)
+                → y ≡ in_bytes (length (take d buffer)) (bits_from m (8 * k + 2) (8 * length (take d buffer) - 3))
+                → l ≡ y ++ drop d buffer
+                → (done (head_values h) ≡ read_answer form m buffer) × (l ≡ read_buffer form m buffer)
+            unfolding read_answer read_buffer read_data
+            was_read pz d y l ed ey el =
+                let zero = read_zero right fields_right (sym (padding_bit right) ∙ pz) in
+                let e : d ≡ data_bytes (form_family form) = rw same at ed in
+                let all : length (take d buffer) ≡ data_bytes (form_family form) = length-take d buffer ∙ omega (arith, long.1) in
+                let w : 8 * k + 2 ≡ head_width form = rw its (sym (head_bytes_and_two form)) in
+                let n : 8 * data_bytes (form_family form) - 3 ≡ record_bits (form_family form) = sym (data_but_three form) in
+                let data_is : y ≡ read_data form m = ey ∙ rw (all, w, n) in (
+                  rw (zero, fields),
+                  el
+                      ∙ part_back (λ (_ : List ℕ). read_data form m) 0 (data_bytes (form_family form)) d buffer y e data_is
+                      ∙ done_room (read_number form m buffer) (on_part (λ (_ : List ℕ). read_data form m) 0 (data_bytes (form_family form)) buffer) buffer zero,
+                )
+
+-- what is asked behind the tests
+pub ruleset behind_the_tests = (some_bytes, room_is_there, room_is_long, head_asks, number_below, body_asks)

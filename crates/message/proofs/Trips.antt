@@ -16,7 +16,7 @@ use Rattle.paper.specs.Message.{Head, is_tag_zero, form_family, after_prnd, head
 use Rattle.paper.specs.Message.{message_bits, message_bytes, message, read_head, read_data, padding_of, carried, clean}
 use Rattle.packing.proofs.Rows.{AllBits, digits_length, digits_bits, from_length, from_at, from_bits, append_bits, append_first, append_then, past_end, bytes_length, bytes_bytes, bytes_bit, spelled}
 use Rattle.packing.proofs.Behind.{from_same, from_join, digits_read, read_digits, from_bytes}
-use Rattle.message.specs.Heads.{joined, head_number, head_from}
+use Rattle.message.specs.Heads.{head_number, head_from}
 use Rattle.message.proofs.Sizes.{head_bytes_and_two, data_but_three, one_left}
 use Rattle.message.proofs.Joined.{Fits, head_digits, head_small, head_computed}
 use Rattle.message.proofs.Reading.{head_read}

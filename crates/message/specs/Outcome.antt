@@ -1,15 +1,23 @@
--- STORE 14.5, for the calls on messages: the head that a heading is, and the answer for each outcome.
-use Rattle.std.specs.Prelude.{ℕ, Bool, ◌&&◌, not, List, [], ◌∷◌, leb, eqb, length}
-use Rattle.paper.specs.Number.{Answer, done, refused, answer, unless}
+-- STORE 14.5, for the calls on messages: the number of a form, the head that a heading is, and the answer for each outcome.
+use Rattle.std.specs.Prelude.{ℕ, Bool, ◌&&◌, not, List, [], ◌∷◌, leb, eqb, length, Result}
+use Rattle.paper.specs.Number.{Answer, unless}
 use Rattle.paper.specs.Time.{is_time, is_start}
 use Rattle.paper.specs.Record.{data_bytes}
 use Rattle.paper.specs.Message.{Head, form_known, form_family, message_bytes, satellites_read, head_values}
-use Rattle.refusals.specs.Reply.{refusal_number}
+use Rattle.refusals.specs.Reply.{answer_of}
+use Rattle.refusals.specs.declared.Refusal.{Refusal}
+use Rattle.message.specs.declared.Form.{Form}
+use Rattle.message.specs.declared.Form.TheVariants.{Ced, Tag0, Timing}
 use Rattle.message.specs.declared.Heading.{Heading}
-use Rattle.message.specs.declared.Built.{Built}
-use Rattle.message.specs.declared.Built.TheVariants.{Message as built, Refused as not_built}
-use Rattle.message.specs.declared.ReadBack.{ReadBack}
-use Rattle.message.specs.declared.ReadBack.TheVariants.{Message as read, PaddingSet, Refused as not_read}
+
+-- STORE 21.1
+abbrev pub form_code : Form → ℕ
+form_code Ced = 0
+form_code Tag0 = 1
+form_code Timing = 2
+
+abbrev pub form_answer : Result Form Refusal → Answer
+form_answer = answer_of (λ form. form_code form ∷ [])
 
 abbrev pub head_of : Heading → Head
 head_of h =
@@ -22,14 +30,13 @@ head_of h =
       status = h.status;
     }
 
-abbrev pub built_answer : Built → Answer
-built_answer (built bytes) = done (bytes ∷ [])
-built_answer (not_built why) = refused (refusal_number why)
+-- beside 0 how many bytes the message has
+abbrev pub built_answer : Result ℕ Refusal → Answer
+built_answer = answer_of (λ bytes. bytes ∷ [])
 
-abbrev pub read_back_answer : ReadBack → Answer
-read_back_answer (read h) = done (head_values (head_of h))
-read_back_answer PaddingSet = refused 26
-read_back_answer (not_read why) = refused (refusal_number why)
+-- beside 0 the fields
+abbrev pub read_back_answer : Result Heading Refusal → Answer
+read_back_answer = answer_of (λ h. head_values (head_of h))
 
 -- the message is as long as its form's, and the data fits the buffer
 abbrev pub well_long : ℕ → List ℕ → List ℕ → Bool

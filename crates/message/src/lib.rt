@@ -2,24 +2,24 @@
 // together are one number, of 58 bits or in tag 0 of 50; the data stands behind it.
 #![tactic(auto)]
 
-ghost use Rattle.std.specs.Prelude.{◌≡◌, ◌&&◌, cond, [], ◌/◌, ◌^◌, ◌<◌, eqb, leb};
-ghost use Rattle.paper.specs.Number.{answer};
+ghost use Rattle.std.specs.Prelude.{◌≡◌, ◌&&◌, cond, [], ◌∷◌, ◌/◌, ◌^◌, ◌<◌, eqb, leb};
+ghost use Rattle.paper.specs.Number.{answer, unless};
 ghost use Rattle.paper.specs.Parts.{Bytes};
 ghost use Rattle.paper.specs.Record.{data_bytes};
 ghost use Rattle.paper.specs.Satellite.{is_satellite};
-ghost use Rattle.paper.specs.Tag.{status_known};
 ghost use Rattle.paper.specs.Message.{form_known, is_tag_zero, form_family, head_width, message_bytes, counter_allowed, satellites_read};
 ghost use Rattle.paper.specs.Message.{build_number, build_answer, build_buffer, read_answer, read_buffer};
 ghost use Rattle.refusals.specs.Reply.{reply_answer};
 ghost use Rattle.message.specs.Heads.{head_number, head_from};
-ghost use Rattle.message.specs.Outcome.{head_of, built_answer, read_back_answer, lengths_number, fields_number};
+ghost use Rattle.message.specs.Outcome.{form_code, form_answer, head_of, built_answer, read_back_answer, lengths_number, fields_number};
 
 use gst::{Gst, Tow, Wn};
 use records::{Ced, Timing};
-use refusals::{Refusal, Reply};
+use refusals::Refusal;
 use svn::Svn;
 
-// STORE 21.1: the forms
+// STORE 21.1: the forms, by their numbers. kept: `build` and `read` take any byte and refuse 9 at its place in the order, so their parameter
+// is a number; behind that test it is a `Form`.
 pub const CED_FORM: u8 = 0;
 
 pub const TAG0_FORM: u8 = 1;
@@ -76,152 +76,150 @@ pub struct Heading {
     pub status: u8,
 }
 
-// What building came to: how many bytes the message has, or why there is none.
+// A form behind the test of its number.
 #[derive(Clone, Copy)]
-pub enum Built {
-    Message(usize),
-    Refused(Refusal),
+enum Form {
+    Ced,
+    Tag0,
+    Timing,
 }
 
-// What reading back came to.
-#[derive(Clone, Copy)]
-pub enum ReadBack {
-    Message(Heading),
-    // 26: a bit behind the data is set
-    PaddingSet,
-    Refused(Refusal),
-}
+impl TryFrom<u8> for Form {
+    type Error = Refusal;
 
-fn head_bytes(form: u8) -> usize
-    ensures { result ≡ head_width form / 8 }
-{
-    if form == TAG0_FORM {
-        SHORT_HEAD
-    } else {
-        LONG_HEAD
+    ghost try_from_gives = { λ number r. form_answer r ≡ answer (unless (form_known number) 9 0) (number ∷ []) };
+
+    // The form of a number: 9 where there is none.
+    fn try_from(number: u8) -> Result<Form, Refusal> {
+        match number {
+            CED_FORM => Ok(Form::Ced),
+            TAG0_FORM => Ok(Form::Tag0),
+            TIMING_FORM => Ok(Form::Timing),
+            _ => Err(Refusal::UnknownCode),
+        }
     }
 }
 
-fn data_bytes(form: u8) -> usize
-    ensures { result ≡ data_bytes (form_family form) }
-{
-    if form == TIMING_FORM {
-        Timing::BYTES
-    } else {
-        Ced::BYTES
+impl Form {
+    // The whole bytes of the fields in front of the data.
+    fn head_bytes(self) -> usize
+        ensures { result ≡ head_width (form_code self) / 8 }
+    {
+        match self {
+            Form::Tag0 => SHORT_HEAD,
+            _ => LONG_HEAD,
+        }
     }
-}
 
-fn message_bytes(form: u8) -> usize
-    ensures { result ≡ message_bytes form }
-{
-    head_bytes(form) + data_bytes(form)
+    fn data_bytes(self) -> usize
+        ensures { result ≡ data_bytes (form_family (form_code self)) }
+    {
+        match self {
+            Form::Timing => Timing::BYTES,
+            _ => Ced::BYTES,
+        }
+    }
+
+    fn message_bytes(self) -> usize
+        ensures { result ≡ message_bytes (form_code self) }
+    {
+        self.head_bytes() + self.data_bytes()
+    }
+
+    // 8: the counter, the data's length, the buffer's
+    fn allows(self, counter: u32, given: usize, room: usize) -> bool
+        ensures { result
+            ≡ (counter_allowed counter && eqb given (data_bytes (form_family (form_code self))) && leb (message_bytes (form_code self)) room) }
+    {
+        (1..=MOST_COUNTER).contains(&counter)
+            && given == self.data_bytes()
+            && self.message_bytes() <= room
+    }
+
+    // The data's satellite where it is carried, else 0.
+    fn prnd_sent(self, prnd: u8) -> u8
+        ensures { result ≡ cond (is_tag_zero (form_code self)) 0 prnd }
+    {
+        match self {
+            Form::Tag0 => 0,
+            _ => prnd,
+        }
+    }
+
+    // The fields as one number.
+    fn head_number(self, h: Heading) -> u64
+        requires { (h.gst.wn.0 < 2 ^ 12) × (h.gst.tow.0 < 2 ^ 20) × (h.counter < 2 ^ 8) × (h.status < 2 ^ 2) }
+        ensures { result ≡ head_number (form_code self) (head_of h) }
+    {
+        let prnd = self.prnd_sent(h.prnd.0);
+        let prna = h.prna.0;
+        let week = h.gst.wn.0;
+        let time = h.gst.tow.0;
+        let satellites = u64::from(prnd) * PRNS + u64::from(prna);
+        let moment = (satellites * WEEKS + u64::from(week)) * TIMES + u64::from(time);
+        (moment * COUNTERS + u64::from(h.counter)) * STATUSES + u64::from(h.status)
+    }
+
+    // 4: the satellites that the form carries
+    fn satellites_read(self, h: Heading) -> bool
+        ensures { result ≡ satellites_read (form_code self) (head_of h) }
+    {
+        h.prna.is_satellite() && (matches!(self, Form::Tag0) || h.prnd.is_satellite())
+    }
 }
 
 // 4: the data's satellite is tested in tag 0 too, though it is not carried
 fn are_satellites(prna: Svn, prnd: Svn) -> bool
     ensures { result ≡ (is_satellite prna.0 && is_satellite prnd.0) }
 {
-    if !prna.is_satellite() {
-        return false;
-    }
-    prnd.is_satellite()
-}
-
-// 9: form or status unknown
-fn are_known(form: u8, status: u8) -> bool
-    ensures { result ≡ (form_known form && status_known status) }
-{
-    if form > TIMING_FORM {
-        return false;
-    }
-    limits::status_known(status)
-}
-
-// 8: the counter, the data's length, the buffer's
-fn are_allowed(form: u8, counter: u32, given: usize, room: usize) -> bool
-    ensures { result ≡ (counter_allowed counter && eqb given (data_bytes (form_family form)) && leb (message_bytes form) room) }
-{
-    if counter < 1 {
-        return false;
-    }
-    if counter > MOST_COUNTER {
-        return false;
-    }
-    if given != data_bytes(form) {
-        return false;
-    }
-    message_bytes(form) <= room
+    prna.is_satellite() && prnd.is_satellite()
 }
 
 // building: 4, 5, 6, 9, 7, 8
 #[tactic(auto, unfolding(paper::specs::Message::build_number))]
-fn build_entry(out: &[u8], form: u8, h: Heading, given: &[u8]) -> Reply
-    ensures { reply_answer result ≡ answer (build_number form (head_of h) given.now out.now) [] }
+fn build_entry(out: &[u8], form: u8, h: Heading, given: &[u8]) -> Result<Form, Refusal>
+    ensures { form_answer result ≡ answer (build_number form (head_of h) given.now out.now) (form ∷ []) }
 {
     if !are_satellites(h.prna, h.prnd) {
-        return Reply::Refused(Refusal::NoSatellite);
+        return Err(Refusal::NoSatellite);
     }
     let time = h.gst.tow.0;
     if gst::tow_too_large(time) {
-        return Reply::Refused(Refusal::TowTooLarge);
+        return Err(Refusal::TowTooLarge);
     }
     if gst::not_a_start(time) {
-        return Reply::Refused(Refusal::NotAStart);
+        return Err(Refusal::NotAStart);
     }
-    if !are_known(form, h.status) {
-        return Reply::Refused(Refusal::UnknownCode);
+    let form = Form::try_from(form)?;
+    if !limits::status_known(h.status) {
+        return Err(Refusal::UnknownCode);
     }
     let week = h.gst.wn.0;
     if week > MOST_WEEK {
-        return Reply::Refused(Refusal::TimeArithmetic);
+        return Err(Refusal::TimeArithmetic);
     }
-    if !are_allowed(form, h.counter, given.len(), out.len()) {
-        return Reply::Refused(Refusal::NotAllowed);
+    if !form.allows(h.counter, given.len(), out.len()) {
+        return Err(Refusal::NotAllowed);
     }
-    Reply::Done
+    Ok(form)
 }
 
-// The data's satellite where it is carried, else 0.
-fn prnd_sent(form: u8, prnd: u8) -> u8
-    ensures { result ≡ cond (is_tag_zero form) 0 prnd }
-{
-    if form == TAG0_FORM { 0 } else { prnd }
-}
-
-// The fields as one number.
-fn head_number(form: u8, h: Heading) -> u64
-    requires { (h.gst.wn.0 < 2 ^ 12) × (h.gst.tow.0 < 2 ^ 20) × (h.counter < 2 ^ 8) × (h.status < 2 ^ 2) }
-    ensures { result ≡ head_number form (head_of h) }
-{
-    let prnd = prnd_sent(form, h.prnd.0);
-    let prna = h.prna.0;
-    let week = h.gst.wn.0;
-    let time = h.gst.tow.0;
-    let counter = h.counter;
-    let status = h.status;
-    let satellites = (prnd as u64) * PRNS + (prna as u64);
-    let moment = (satellites * WEEKS + (week as u64)) * TIMES + (time as u64);
-    (moment * COUNTERS + (counter as u64)) * STATUSES + (status as u64)
-}
-
-// The message at the start of the lent buffer. That what is given are bytes follows from its type; it is said for what holds of two calls.
-pub fn build(out: &mut [u8], form: u8, h: Heading, given: &[u8]) -> Built
+// The message at the start of the lent buffer, and how many bytes it has. That what is given are bytes follows from its type; it is said for
+// what holds of two calls.
+#[tactic(auto, using(crate::proofs::Building::behind_the_tests))]
+pub fn build(out: &mut [u8], form: u8, h: Heading, given: &[u8]) -> Result<usize, Refusal>
     ensures { (built_answer result ≡ build_answer form (head_of h) given.now out.old)
         × (out.new ≡ build_buffer form (head_of h) given.now out.old)
         × Bytes given.now }
 {
-    let reply = build_entry(out, form, h, given);
-    if let Reply::Refused(why) = reply {
-        return Built::Refused(why);
-    }
-    let bytes = message_bytes(form);
-    let head = head_number(form, h);
-    packing::write(&mut out[0..bytes], head_bytes(form), head, given);
-    Built::Message(bytes)
+    let form = build_entry(out, form, h, given)?;
+    let bytes = form.message_bytes();
+    let head = form.head_number(h);
+    packing::write(&mut out[..bytes], form.head_bytes(), head, given);
+    Ok(bytes)
 }
 
-// The fields of such a number.
+// The fields of such a number. kept: `as`, since each part fits its field by what is asked, and no `From` narrows.
 #[tactic(auto, unfolding(crate::specs::Heads::head_from))]
 fn heading_of(head: u64) -> Heading
     requires { head < 2 ^ 58 }
@@ -245,75 +243,55 @@ fn heading_of(head: u64) -> Heading
 
 // reading back: 9, 8
 #[tactic(auto, unfolding(crate::specs::Outcome::lengths_number))]
-fn lengths_entry(out: &[u8], form: u8, message: &[u8]) -> Reply
-    ensures { reply_answer result ≡ answer (lengths_number form message.now out.now) [] }
+fn lengths_entry(out: &[u8], form: u8, message: &[u8]) -> Result<Form, Refusal>
+    ensures { form_answer result ≡ answer (lengths_number form message.now out.now) (form ∷ []) }
 {
-    if form > TIMING_FORM {
-        return Reply::Refused(Refusal::UnknownCode);
+    let form = Form::try_from(form)?;
+    if message.len() != form.message_bytes() {
+        return Err(Refusal::NotAllowed);
     }
-    if message.len() != message_bytes(form) {
-        return Reply::Refused(Refusal::NotAllowed);
+    if out.len() < form.data_bytes() {
+        return Err(Refusal::NotAllowed);
     }
-    if out.len() < data_bytes(form) {
-        return Reply::Refused(Refusal::NotAllowed);
-    }
-    Reply::Done
-}
-
-// 4: the satellites that the form carries
-fn satellites_read(form: u8, h: Heading) -> bool
-    ensures { result ≡ satellites_read form (head_of h) }
-{
-    if !h.prna.is_satellite() {
-        return false;
-    }
-    if form == TAG0_FORM {
-        return true;
-    }
-    h.prnd.is_satellite()
+    Ok(form)
 }
 
 // reading back: 4, 5, 6, 8
 #[tactic(auto, unfolding(crate::specs::Outcome::fields_number))]
-fn fields_entry(form: u8, h: Heading) -> Reply
-    ensures { reply_answer result ≡ answer (fields_number form (head_of h)) [] }
+fn fields_entry(form: Form, h: Heading) -> Result<(), Refusal>
+    ensures { reply_answer result ≡ answer (fields_number (form_code form) (head_of h)) [] }
 {
-    if !satellites_read(form, h) {
-        return Reply::Refused(Refusal::NoSatellite);
+    if !form.satellites_read(h) {
+        return Err(Refusal::NoSatellite);
     }
     let time = h.gst.tow.0;
     if gst::tow_too_large(time) {
-        return Reply::Refused(Refusal::TowTooLarge);
+        return Err(Refusal::TowTooLarge);
     }
     if gst::not_a_start(time) {
-        return Reply::Refused(Refusal::NotAStart);
+        return Err(Refusal::NotAStart);
     }
     let counter = h.counter;
     if counter == 0 {
-        return Reply::Refused(Refusal::NotAllowed);
+        return Err(Refusal::NotAllowed);
     }
-    Reply::Done
+    Ok(())
 }
 
 // The fields of a message, and its data at the start of the lent buffer; and the message are bytes.
-pub fn read(out: &mut [u8], form: u8, message: &[u8]) -> ReadBack
+#[tactic(auto, using(crate::proofs::Reading::behind_the_tests))]
+pub fn read(out: &mut [u8], form: u8, message: &[u8]) -> Result<Heading, Refusal>
     ensures { (read_back_answer result ≡ read_answer form message.now out.old)
         × (out.new ≡ read_buffer form message.now out.old)
         × Bytes message.now }
 {
-    let lengths = lengths_entry(out, form, message);
-    if let Reply::Refused(why) = lengths {
-        return ReadBack::Refused(why);
-    }
-    let k = head_bytes(form);
+    let form = lengths_entry(out, form, message)?;
+    let k = form.head_bytes();
     let h = heading_of(packing::head(message, k));
-    let fields = fields_entry(form, h);
-    if let Reply::Refused(why) = fields {
-        return ReadBack::Refused(why);
-    }
+    fields_entry(form, h)?;
     if message[message.len() - 1] % 2 != 0 {
-        return ReadBack::PaddingSet;
+        return Err(Refusal::PaddingSet);
     }
-    packing::body(&mut out[0..data_bytes(form)], k, message);
-    ReadBack::Message(h)
+    packing::body(&mut out[..form.data_bytes()], k, message);
+    Ok(h)
 }

@@ -12,8 +12,8 @@
 ghost use Rattle.std.specs.Prelude.{◌≤◌, length};
 
 use gst::{Gst, Tow, Wn};
-use message::{Built, Heading, ReadBack};
-use refusals::PADDING_SET;
+use message::Heading;
+use refusals::Refusal;
 use std::io;
 use std::io::Read;
 use svn::Svn;
@@ -49,7 +49,7 @@ fn number(rt: HostRuntime, n: u32) {
 }
 
 fn byte(rt: HostRuntime, n: u8) {
-    number(rt, n as u32);
+    number(rt, n.into());
 }
 
 // A space and bytes in hex.
@@ -64,58 +64,50 @@ fn hex(rt: HostRuntime, bytes: &[u8])
 
 // Whether every byte of a lent buffer is as before the call.
 fn is_untouched(buffer: &[u8]) -> bool {
-    let mut i = 0;
-    while i < buffer.len() {
-        if buffer[i] != LENT {
-            return false;
-        }
-        i += 1;
-    }
-    true
+    buffer.iter().all(|&byte| byte == LENT)
 }
 
 // The number of a refusal. It leaves the buffer as it was; if not, it would show.
-fn said_refusal(rt: HostRuntime, n: u8, buffer: &[u8]) {
-    byte(rt, n);
+fn said_refusal(rt: HostRuntime, why: Refusal, buffer: &[u8]) {
+    byte(rt, why.into());
     if !is_untouched(buffer) {
         text(rt, b" changed");
     }
 }
 
 // What building answered.
-fn said_built(rt: HostRuntime, answer: Built, buffer: &[u8])
+fn said_built(rt: HostRuntime, answer: Result<usize, Refusal>, buffer: &[u8])
     requires { length buffer.now ≤ 255 }
 {
     match answer {
-        Built::Message(_) => {
+        Ok(_) => {
             byte(rt, 0);
             hex(rt, buffer);
         }
-        Built::Refused(why) => said_refusal(rt, refusals::number(why), buffer),
+        Err(why) => said_refusal(rt, why, buffer),
     }
 }
 
 fn said_heading(rt: HostRuntime, h: Heading) {
     byte(rt, h.prnd.0);
     byte(rt, h.prna.0);
-    number(rt, h.gst.wn.0 as u32);
+    number(rt, h.gst.wn.0.into());
     number(rt, h.gst.tow.0);
     number(rt, h.counter);
     byte(rt, h.status);
 }
 
 // What reading back answered.
-fn said_read(rt: HostRuntime, answer: ReadBack, buffer: &[u8])
+fn said_read(rt: HostRuntime, answer: Result<Heading, Refusal>, buffer: &[u8])
     requires { length buffer.now ≤ 255 }
 {
     match answer {
-        ReadBack::Message(h) => {
+        Ok(h) => {
             byte(rt, 0);
             said_heading(rt, h);
             hex(rt, buffer);
         }
-        ReadBack::PaddingSet => said_refusal(rt, PADDING_SET, buffer),
-        ReadBack::Refused(why) => said_refusal(rt, refusals::number(why), buffer),
+        Err(why) => said_refusal(rt, why, buffer),
     }
 }
 
@@ -179,9 +171,14 @@ fn build_one(rt: HostRuntime) -> bool {
     if !filled(rt, &mut fields) {
         return false;
     }
-    let room = numbers::as_usize(fields[14]);
-    let n = numbers::as_usize(fields[15]);
-    build_line(rt, &fields, &mut data[..n], &mut buffer[..room])
+    let room = fields[14];
+    let n = fields[15];
+    build_line(
+        rt,
+        &fields,
+        &mut data[..usize::from(n)],
+        &mut buffer[..usize::from(room)],
+    )
 }
 
 // An item that reads back: whether it is whole.
@@ -192,9 +189,14 @@ fn read_one(rt: HostRuntime) -> bool {
     if !filled(rt, &mut fields) {
         return false;
     }
-    let room = numbers::as_usize(fields[1]);
-    let n = numbers::as_usize(fields[2]);
-    read_line(rt, fields[0], &mut given[..n], &mut buffer[..room])
+    let room = fields[1];
+    let n = fields[2];
+    read_line(
+        rt,
+        fields[0],
+        &mut given[..usize::from(n)],
+        &mut buffer[..usize::from(room)],
+    )
 }
 
 // Where the input ends: inside an item, or not. Behind the end a read brings nothing, and one that failed fails again.
@@ -217,7 +219,7 @@ fn goes_on(rt: HostRuntime, whole: bool) -> bool {
     whole
 }
 
-// The next item of standard input: whether the program goes on.
+// The next item of standard input: whether the program goes on. kept: the kind is a byte of the input, told apart here and nowhere else.
 fn next(rt: HostRuntime) -> bool {
     let mut kind = [0u8; 1];
     if !filled(rt, &mut kind) {
@@ -234,13 +236,11 @@ fn next(rt: HostRuntime) -> bool {
     }
 }
 
-// A proved loop has to end, and nothing says that an input does: it counts the items down, from a number that no run uses up.
+// A proved loop has to end, and nothing says that an input does: its turns are so many that no run uses them up.
 fn main(rt: HostRuntime) {
-    let mut left = u64::MAX;
-    while left > 0 {
+    for _ in 0..u64::MAX {
         if !next(rt) {
             return;
         }
-        left -= 1;
     }
 }

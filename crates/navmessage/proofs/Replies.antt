@@ -18,15 +18,14 @@ use Rattle.paper.proofs.Order.{unless_zero}
 use Rattle.paper.proofs.StoreFacts.{store_facts}
 use Rattle.refusals.specs.Reply.{refusal_number, reply_answer}
 use Rattle.refusals.specs.declared.Refusal.{Refusal}
-use Rattle.refusals.specs.declared.Reply.{Reply}
-use Rattle.refusals.specs.declared.Reply.TheVariants.{Done, Refused}
+use Rattle.std.specs.Prelude.{⊤, Result, Ok, Err}
 use Rattle.refusals.proofs.Answers.{refuses, does, done_room}
 
-pub refused_pair : (r : Reply) (w : Refusal) (k : ℕ) (after room : List ℕ) → r ≡ Refused w → reply_answer r ≡ answer k []
+pub refused_pair : (r : Result ⊤ Refusal) (w : Refusal) (k : ℕ) (after room : List ℕ) → r ≡ Err w → reply_answer r ≡ answer k []
     → (refused (refusal_number w) ≡ answer k []) × (room ≡ room_for k after room)
 refused_pair r w k after room q e = (ap reply_answer (sym q) ∙ e, refuses r w k [] after room q e)
 
-pub done_pair : (r : Reply) (k : ℕ) (after out room : List ℕ) → r ≡ Done → reply_answer r ≡ answer k [] → out ≡ after
+pub done_pair : (r : Result ⊤ Refusal) (k : ℕ) (after out room : List ℕ) → r ≡ Ok tt → reply_answer r ≡ answer k [] → out ≡ after
     → (done [] ≡ answer k []) × (out ≡ room_for k after room)
 done_pair r k after out room q e o = (ap reply_answer (sym q) ∙ e, o ∙ done_room k after room (does r k [] q e))
 

@@ -1,4 +1,4 @@
-// The store's calls, under the names of the Rust. Each tests its own input, answers by an enum whose number and values are the
+// The store's calls, under the names of the Rust. Each tests its own input, answers by a `Result` whose number and values are
 // those of STORE 14, and changes the lent room only where it answers 0.
 #![tactic(auto)]
 
@@ -10,52 +10,44 @@ ghost use Rattle.refusals.specs.Reply.{reply_answer};
 ghost use Rattle.tags.specs.Candidates.{tagged_answer};
 ghost use Rattle.navmessage.specs.Asked.{asked_answer};
 
-use ask::Answered;
 use gst::Gst;
 use limits::TIMING_KIND;
-use refusals::{Refusal, Reply};
+use refusals::Refusal;
 use svn::Svn;
-use tags::{Candidate, Tagged};
 
 // A fresh store of d rows and n slots at the start of the room, under an ageing rule (0 by the moves of the ring, 1 by time).
 #[tactic(auto, unfolding(paper::specs::Answer::fresh_room))]
-pub fn fresh(room: &mut [u8], d: u8, n: u8, rule: u8) -> Reply
+pub fn fresh(room: &mut [u8], d: u8, n: u8, rule: u8) -> Result<(), Refusal>
     ensures { (reply_answer result ≡ fresh_answer d n rule room.old)
         × (room.new ≡ fresh_room d n rule room.old) }
 {
-    let reply = entry::fresh_entry(room, d, n, rule);
-    if let Reply::Refused(why) = reply {
-        return Reply::Refused(why);
-    }
+    entry::fresh_entry(room, d, n, rule)?;
     fresh::fresh_room(room, d, n, rule);
-    Reply::Done
+    Ok(())
 }
 
 // All counts put to 0.
 #[tactic(auto, unfolding(paper::specs::Answer::reset_number, paper::specs::Answer::reset_room))]
-pub fn reset_authbits(room: &mut [u8]) -> Reply
+pub fn reset_authbits(room: &mut [u8]) -> Result<(), Refusal>
     ensures { (reply_answer result ≡ reset_answer room.old)
         × (room.new ≡ reset_room room.old) }
 {
     if !store::is_store(room) {
-        return Reply::Refused(Refusal::NotAStore);
+        return Err(Refusal::NotAStore);
     }
     reset::reset_room(room);
-    Reply::Done
+    Ok(())
 }
 
 // A word of a satellite, received at a time on a band (0 E1B, 1 E5B).
 #[tactic(auto, unfolding(paper::specs::Answer::feed_room))]
-pub fn feed(room: &mut [u8], word: &[u8], svn: Svn, gst: Gst, band: u8) -> Reply
+pub fn feed(room: &mut [u8], word: &[u8], svn: Svn, gst: Gst, band: u8) -> Result<(), Refusal>
     ensures { (reply_answer result ≡ feed_answer word.now svn.0 gst.wn.0 gst.tow.0 band room.old)
         × (room.new ≡ feed_room word.now svn.0 gst.wn.0 gst.tow.0 band room.old) }
 {
-    let reply = entry::feed_entry(room, word, svn, gst, band);
-    if let Reply::Refused(why) = reply {
-        return Reply::Refused(why);
-    }
+    entry::feed_entry(room, word, svn, gst, band)?;
     feed::feed_word(room, gst, svn.0, band, word);
-    Reply::Done
+    Ok(())
 }
 
 // A tag that was checked: for which satellite and kind, with which COP and length, under which status, in a MACK of which time, over
@@ -71,7 +63,7 @@ pub fn tag(
     mack: Gst,
     given: &[u8],
     verdict: bool,
-) -> Tagged
+) -> Result<u32, Refusal>
     ensures { (tagged_answer result
         ≡ tag_answer svn.0 kind cop bits status mack.wn.0 mack.tow.0 given.now verdict room.old)
         × (room.new
@@ -79,29 +71,17 @@ pub fn tag(
 {
     let allowed = limits::tag_allowed(cop, bits);
     let known = limits::tag_known(kind, status);
-    match tags::candidate_of(room, svn, kind, cop, mack, allowed, known) {
-        Candidate::At(at) => tags::accept(
-            room,
-            at,
-            kind == TIMING_KIND,
-            svn.0,
-            bits,
-            status,
-            given,
-            verdict,
-        ),
-        Candidate::Refused(why) => Tagged::Refused(why),
-    }
+    let at = tags::candidate_of(room, svn, kind, cop, mack, allowed, known)?;
+    let timing = kind == TIMING_KIND;
+    tags::accept(room, at, timing, svn.0, bits, status, given, verdict)
 }
 
 // Whether a tag of this kind and COP has a candidate.
-pub fn candidate(room: &[u8], svn: Svn, kind: u8, cop: u8, mack: Gst) -> Reply
+pub fn candidate(room: &[u8], svn: Svn, kind: u8, cop: u8, mack: Gst) -> Result<(), Refusal>
     ensures { reply_answer result ≡ candidate_answer svn.0 kind cop mack.wn.0 mack.tow.0 room.now }
 {
-    match tags::candidate_shown(room, svn, kind, cop, mack) {
-        Candidate::At(_) => Reply::Done,
-        Candidate::Refused(why) => Reply::Refused(why),
-    }
+    tags::candidate_shown(room, svn, kind, cop, mack)?;
+    Ok(())
 }
 
 // The candidate's data as a slice of the room, or the empty slice.
@@ -110,8 +90,8 @@ pub fn candidate_data(room: &[u8], svn: Svn, kind: u8, cop: u8, mack: Gst) -> &[
     ensures { result.now ≡ candidate_data svn.0 kind cop mack.wn.0 mack.tow.0 room.now }
 {
     match tags::candidate_shown(room, svn, kind, cop, mack) {
-        Candidate::At(at) => lookup::data_of(room, at, kind == TIMING_KIND),
-        Candidate::Refused(_) => &room[0..0],
+        Ok(at) => lookup::data_of(room, at, kind == TIMING_KIND),
+        Err(_) => &room[..0],
     }
 }
 
@@ -122,20 +102,14 @@ pub struct Reading {
     pub gst: Gst,
 }
 
-// What asking for a satellite's data came to.
-#[derive(Clone, Copy)]
-pub enum Asked {
-    Found(Reading),
-    Refused(Refusal),
-}
-
-fn ask_for(room: &[u8], timing: bool, svn: Svn) -> Asked
+fn ask_for(room: &[u8], timing: bool, svn: Svn) -> Result<Reading, Refusal>
     ensures { asked_answer result ≡ ask_answer (family_if timing) svn.0 room.now }
 {
-    match ask::ask(room, timing, svn) {
-        Answered::Record(_, authbits, gst) => Asked::Found(Reading { authbits, gst }),
-        Answered::Refused(why) => Asked::Refused(why),
-    }
+    let answer = ask::ask(room, timing, svn)?;
+    Ok(Reading {
+        authbits: answer.authbits,
+        gst: answer.gst,
+    })
 }
 
 // The data of the record that answers, or the empty slice.
@@ -143,20 +117,20 @@ fn data_for(room: &[u8], timing: bool, svn: Svn) -> &[u8]
     ensures { result.now ≡ ask_data (family_if timing) svn.0 room.now }
 {
     match ask::ask(room, timing, svn) {
-        Answered::Record(at, _, _) => lookup::data_of(room, at, timing),
-        Answered::Refused(_) => &room[0..0],
+        Ok(answer) => lookup::data_of(room, answer.at, timing),
+        Err(_) => &room[0..0],
     }
 }
 
 // Authenticated ephemeris, clock and status of a satellite: its count and time.
-pub fn get_ced_and_status(room: &[u8], svn: Svn) -> Asked
+pub fn get_ced_and_status(room: &[u8], svn: Svn) -> Result<Reading, Refusal>
     ensures { asked_answer result ≡ ask_answer CED svn.0 room.now }
 {
     ask_for(room, false, svn)
 }
 
 // Authenticated timing parameters of a satellite: their count and time.
-pub fn get_timing_parameters(room: &[u8], svn: Svn) -> Asked
+pub fn get_timing_parameters(room: &[u8], svn: Svn) -> Result<Reading, Refusal>
     ensures { asked_answer result ≡ ask_answer Timing svn.0 room.now }
 {
     ask_for(room, true, svn)

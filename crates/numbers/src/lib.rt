@@ -1,35 +1,14 @@
-// Bytes as wider numbers, and big-endian ones (STORE 7.2): two and four bytes of a slice, read and written. A read is one sum, so that it
-// becomes one load.
+// Numbers in bytes: big-endian ones (STORE 7.2), two and four bytes of a slice, read and written, and a byte that may lie past the end.
 #![tactic(auto)]
 
-ghost use Rattle.std.specs.Prelude.{◌≡◌, ◌+◌, ◌≤◌, ◌<◌, length};
+ghost use Rattle.std.specs.Prelude.{◌≡◌, ◌+◌, ◌≤◌, length, get_or};
 ghost use Rattle.paper.specs.Big.{be16, be32, put16, put32};
 
-// A byte as a number of 16 bits.
-pub fn as_u16(x: u8) -> u16
-    ensures { (result ≡ x) × (result < 256) }
+// Byte j, or 0 past the end: behind the last bits of a slice every bit is 0.
+pub fn byte_or_zero(s: &[u8], j: usize) -> u8
+    ensures { result ≡ get_or s.now j 0 }
 {
-    x as u16
-}
-
-// A byte as a number of 32 bits.
-pub fn as_u32(x: u8) -> u32
-    ensures { (result ≡ x) × (result < 256) }
-{
-    x as u32
-}
-
-// A byte as a length or an index.
-pub fn as_usize(x: u8) -> usize
-    ensures { (result ≡ x) × (result < 256) }
-{
-    x as usize
-}
-
-fn widened(n: u16) -> u32
-    ensures { result ≡ n }
-{
-    n as u32
+    s.get(j).copied().unwrap_or(0)
 }
 
 // The number in the two bytes at `at`.
@@ -38,16 +17,16 @@ pub fn read16(s: &[u8], at: usize) -> u16
     requires { at + 2 ≤ length s.now }
     ensures { result ≡ be16 s.now at }
 {
-    as_u16(s[at]) * 256 + as_u16(s[at + 1])
+    u16::from_be_bytes([s[at], s[at + 1]])
 }
 
 // The number in the four bytes at `at`.
-#[tactic(auto, unfolding(paper::specs::Big::be32))]
+#[tactic(auto, unfolding(paper::specs::Big::be32, paper::specs::Big::be16))]
 pub fn read32(s: &[u8], at: usize) -> u32
     requires { at + 4 ≤ length s.now }
     ensures { result ≡ be32 s.now at }
 {
-    widened(read16(s, at)) * 65536 + widened(read16(s, at + 2))
+    u32::from_be_bytes([s[at], s[at + 1], s[at + 2], s[at + 3]])
 }
 
 // x into the two bytes at `at`.
@@ -56,8 +35,7 @@ pub fn write16(s: &mut [u8], at: usize, x: u16)
     requires { at + 2 ≤ length s.old }
     ensures { s.new ≡ put16 s.old at x }
 {
-    s[at] = (x / 256) as u8;
-    s[at + 1] = (x % 256) as u8;
+    s[at..at + 2].copy_from_slice(&x.to_be_bytes());
 }
 
 // x into the four bytes at `at`.
@@ -66,6 +44,5 @@ pub fn write32(s: &mut [u8], at: usize, x: u32)
     requires { at + 4 ≤ length s.old }
     ensures { s.new ≡ put32 s.old at x }
 {
-    write16(s, at, (x / 65536) as u16);
-    write16(s, at + 2, (x % 65536) as u16);
+    s[at..at + 4].copy_from_slice(&x.to_be_bytes());
 }

@@ -13,7 +13,7 @@ use lib.Ieee.{Float, binary64, to_bits}
 use lib.Pow.{pow_mono}
 use Rattle.paper.specs.Record.{Family, same_family}
 use Rattle.paper.specs.Word.{Line, table}
-use Rattle.paper.specs.Field.{Field, Sign, unsigned, signed, Scale, plain, by, layouts, fields_in, fields_of, value_of, bits_at, numbers_at, in_record, fields_along, numbers_along}
+use Rattle.paper.specs.Field.{Field, Sign, unsigned, signed, Scale, plain, by, layouts, fields_in, fields_of, value_of, numbers_at, in_record, fields_along, numbers_along}
 use Rattle.paper.specs.Double.{Exactly, double, scaled_before, doubles_of, doubles_in}
 use Rattle.paper.proofs.Fields.{bits_small}
 use Rattle.paper.proofs.StoreFacts.{both_true}

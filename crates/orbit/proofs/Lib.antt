@@ -1,5 +1,5 @@
 pub mod Places
-pub mod Tests
+pub mod Issues
 pub mod Words
 pub mod Told
 pub mod Exact

@@ -1,9 +1,10 @@
 -- What reading numbers answers, from what asking answered and what its data passed; and where the data lies. Assumes nothing.
 use mathlib.Core.Bool.{Bool, true, false, cond}
-use mathlib.Core.List.{List, []}
+use mathlib.Core.List.{List, [], ◌∷◌}
 use mathlib.Core.Path.{◌≡◌, refl, sym, ap, subst, ◌∙◌}
 use native.Mathlib.Omega.{arith}
 use Prim.Native.Nat.{ℕ, zero, suc, ◌+◌, ◌≤◌}
+use Rattle.std.specs.Prelude.{Result, Ok, Err}
 use lib.Dec.{eqb, eqb-suc-zero}
 use lib.ListN.{length}
 use Rattle.paper.specs.Number.{Answer, done, refused, values, answer, unless}
@@ -12,10 +13,11 @@ use Rattle.paper.specs.Record.{Family, CED, family_if, size, data_at, data_bytes
 use Rattle.paper.specs.Answer.{ask_number, ask_answer, ask_data}
 use Rattle.paper.specs.Orbit.{one_issue, svid_of, numbers_tests, numbers_number, numbers_answer, numbers_data}
 use Rattle.refusals.proofs.Answers.{done_number, refused_part}
-use Rattle.ask.specs.Answered.{ask_place}
+use Rattle.refusals.specs.Reply.{refusal_number}
+use Rattle.ask.specs.Answered.{answered_answer, place_answered, ask_place}
 use Rattle.ask.proofs.Tells.{AnswerThere, answer_there}
-use Rattle.orbit.specs.declared.Placed.{Placed}
-use Rattle.orbit.specs.declared.Placed.TheVariants.{At, IssuesDiffer, OtherSatellite, Refused}
+use Rattle.ask.specs.declared.Answering.{Answering}
+use Rattle.refusals.specs.declared.Refusal.{Refusal}
 use Rattle.orbit.specs.Got.{placed_answer, place_placed, numbers_place, PlacedWithin, part_placed}
 
 -- ---- the tests of CED data
@@ -106,11 +108,20 @@ module _ (f : Family) (sat : ℕ) (room : List ℕ) where
         let there = answer_there f sat room (values (ask_answer f sat room)) place answered at_place in
         record { inside = there.inside; bytes = there.bytes ∙ rw number_0 }
 
+-- ---- what came back says the answer and the place of the record, or the answer of the refusal
+module _ {r : Result Answering Refusal} {a : Answer} {n : ℕ} where
+  pub record_told : {x : Answering} → r ≡ Ok x → (answered_answer r ≡ a) × (place_answered r ≡ n)
+      → (done (x.authbits ∷ x.gst.wn.0 ∷ x.gst.tow.0 ∷ []) ≡ a) × (x.at ≡ n)
+  record_told was told = (ap answered_answer (sym was) ∙ told.0, ap place_answered (sym was) ∙ told.1)
+
+  pub refusal_told : {why : Refusal} → r ≡ Err why → (answered_answer r ≡ a) × (place_answered r ≡ n) → refused (refusal_number why) ≡ a
+  refusal_told was told = ap answered_answer (sym was) ∙ told.0
+
 -- ---- asking for CED was answered 0, and its data is looked into
-module _ (t : Bool) (isCED : t ≡ false) (sat : ℕ) (room v : List ℕ) (place : ℕ)
-    (e : done v ≡ ask_answer (family_if t) sat room) (p : place ≡ ask_place (family_if t) sat room) where
+module _ {t : Bool} (isCED : t ≡ false) (sat : ℕ) (room : List ℕ) {v : List ℕ} {place : ℕ}
+    (told : (done v ≡ ask_answer (family_if t) sat room) × (place ≡ ask_place (family_if t) sat room)) where
   ced_there : AnswerThere CED sat room place
-  ced_there = answer_there CED sat room v place (subst OnFamily isCED e) (subst AtPlace isCED p)
+  ced_there = answer_there CED sat room v place (subst OnFamily isCED told.0) (subst AtPlace isCED told.1)
     where
       OnFamily : Bool → Type 0
       OnFamily b = done v ≡ ask_answer (family_if b) sat room
@@ -121,26 +132,24 @@ module _ (t : Bool) (isCED : t ≡ false) (sat : ℕ) (room v : List ℕ) (place
   pub ced_inside : place + size CED ≤ length room
   ced_inside = ced_there.inside
 
-  module _ (d : List ℕ) (is : d ≡ part (place + data_at CED) (data_bytes CED) room) where
+  module _ {d : List ℕ} (is : d ≡ part (place + data_at CED) (data_bytes CED) room) where
     tests_are : numbers_tests (family_if t) sat (ask_data (family_if t) sat room) ≡ numbers_tests CED sat d
     tests_are =
         ap (λ (b : Bool). numbers_tests (family_if b) sat (ask_data (family_if b) sat room)) isCED
         ∙ ap (numbers_tests CED sat) (sym (is ∙ ced_there.bytes))
 
     pub ced_passes : numbers_tests CED sat d ≡ 0 → Answers (family_if t) sat room (done v) place
-    ced_passes q = passes (family_if t) sat room v e place p (tests_are ∙ q)
+    ced_passes q = passes (family_if t) sat room v told.0 place told.1 (tests_are ∙ q)
 
     pub ced_fails : (k : ℕ) → numbers_tests CED sat d ≡ suc k → Answers (family_if t) sat room (refused (suc k)) 0
-    ced_fails k q = fails (family_if t) sat room v e k (tests_are ∙ q)
+    ced_fails k q = fails (family_if t) sat room v told.0 k (tests_are ∙ q)
 
 -- ---- the place, as it is answered
 module _ (f : Family) (sat : ℕ) (room : List ℕ) where
-  pub placed_there : (r : Placed) → placed_answer r ≡ numbers_answer f sat room → place_placed r ≡ numbers_place f sat room
+  pub placed_there : (r : Result Answering Refusal) → placed_answer r ≡ numbers_answer f sat room → place_placed r ≡ numbers_place f sat room
       → PlacedWithin f r (length room) × (part_placed f r room ≡ numbers_data f sat room)
-  placed_there (At place n gst) e p = let there = numbers_there f sat room _ place e p in (there.inside, there.bytes)
-  placed_there IssuesDiffer e p = (tt, no_numbers f sat room 21 e)
-  placed_there OtherSatellite e p = (tt, no_numbers f sat room 22 e)
-  placed_there (Refused why) e p = (tt, no_numbers f sat room _ e)
+  placed_there (Ok a) e p = let there = numbers_there f sat room _ a.at e p in (there.inside, there.bytes)
+  placed_there (Err why) e p = (tt, no_numbers f sat room _ e)
 
   -- where the numbers are handed out, the count, the time and the data are those of asking
   pub as_asked : numbers_number f sat room ≡ 0

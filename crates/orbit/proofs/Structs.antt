@@ -10,12 +10,11 @@ use Rattle.paper.specs.Record.{CED, Timing}
 use Rattle.paper.specs.Word.{table}
 use Rattle.paper.specs.Field.{layouts, fields_in, numbers_at, named, in_record, fields_along, numbers_along}
 use Rattle.paper.specs.Double.{doubles_of}
-use Rattle.gst.specs.declared.Gst.{Gst}
+use Rattle.std.specs.Prelude.{Ok}
 use Rattle.fields.specs.Words.{word1_from, word2_from, word3_from, word4_from, word5_from, word6_from, word10_from}
 use Rattle.orbit.specs.declared.Orbit.{Orbit}
 use Rattle.orbit.specs.declared.TimingNumbers.{TimingNumbers}
-use Rattle.orbit.specs.declared.GotOrbit.TheVariants.{Found}
-use Rattle.orbit.specs.declared.GotTiming.TheVariants.{Found as timing_found}
+use Rattle.orbit.specs.declared.Got.{Got}
 use Rattle.orbit.specs.Numbers.{scaled_from, scaled_timing_from, orbit_from, timing_from}
 use Rattle.orbit.specs.Exact.{OrbitExact, TimingExact}
 use Rattle.orbit.proofs.Exact.{doubles_exact}
@@ -109,15 +108,15 @@ pub timing_of_exact :
 timing_of_exact κs a r e p = subst TimingExact (sym p) (timing_exact a.0.now)
 
 pub get_orbit_exact :
-    (κs : Lfts 1) (a : Dens κs get_orbit_kinds.ps) (n : ℕ) (gst : Gst) (orbit : Orbit)
+    (κs : Lfts 1) (a : Dens κs get_orbit_kinds.ps) (got : Got Orbit)
     (e : AtExit (ended_of 1 get_orbit_kinds.ps get_orbit_kinds.r) κs)
-    → get_orbit.Post κs a (Found n gst orbit) e
-    → OrbitExact orbit
-get_orbit_exact κs a n gst orbit e p = subst OrbitExact (sym p.1) (orbit_exact _)
+    → get_orbit.Post κs a (Ok got) e
+    → OrbitExact got.numbers
+get_orbit_exact κs a got e p = subst OrbitExact (sym p.1) (orbit_exact _)
 
 pub get_timing_numbers_exact :
-    (κs : Lfts 1) (a : Dens κs get_timing_numbers_kinds.ps) (n : ℕ) (gst : Gst) (timing : TimingNumbers)
+    (κs : Lfts 1) (a : Dens κs get_timing_numbers_kinds.ps) (got : Got TimingNumbers)
     (e : AtExit (ended_of 1 get_timing_numbers_kinds.ps get_timing_numbers_kinds.r) κs)
-    → get_timing_numbers.Post κs a (timing_found n gst timing) e
-    → TimingExact timing
-get_timing_numbers_exact κs a n gst timing e p = subst TimingExact (sym p.1) (timing_exact _)
+    → get_timing_numbers.Post κs a (Ok got) e
+    → TimingExact got.numbers
+get_timing_numbers_exact κs a got e p = subst TimingExact (sym p.1) (timing_exact _)

@@ -4,7 +4,7 @@ use mathlib.Core.Path.{◌≡◌}
 use Prim.Native.Nat.{ℕ}
 use Rattle.paper.specs.Record.{CED, Timing}
 use Rattle.paper.specs.Word.{table}
-use Rattle.paper.specs.Field.{layouts, fields_in, in_record, numbers_of, numbers_along}
+use Rattle.paper.specs.Field.{in_record, numbers_of, numbers_along}
 use Rattle.paper.specs.Double.{doubles_in}
 use Rattle.fields.specs.Words.{word1_from, word2_from, word3_from, word4_from, word5_from, word6_from, word10_from}
 use Rattle.fields.proofs.Words.{word1_back, word2_back, word3_back, word4_back, word5_back, word6_back, word10_back}
@@ -15,8 +15,6 @@ use Rattle.fields.specs.declared.Word4.{Word4}
 use Rattle.fields.specs.declared.Word5.{Word5}
 use Rattle.fields.specs.declared.Word6.{Word6}
 use Rattle.fields.specs.declared.Word10.{Word10}
-use Rattle.orbit.specs.declared.Scaled.{Scaled}
-use Rattle.orbit.specs.declared.ScaledTiming.{ScaledTiming}
 use Rattle.orbit.specs.Numbers.{scaled_from, scaled_timing_from, scaled_of, scaled_timing_of}
 
 pub doubles_of_lem :

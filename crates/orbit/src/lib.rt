@@ -6,15 +6,16 @@ ghost use Rattle.std.specs.Prelude.{◌≡◌, eqb};
 ghost use Rattle.paper.specs.Record.{CED, Timing as TIMING, family_if};
 ghost use Rattle.paper.specs.Orbit.{one_issue, svid_of, numbers_answer, numbers_data};
 ghost use Rattle.orbit.specs.Numbers.{scaled_of, scaled_timing_of, orbit_from, timing_from};
-ghost use Rattle.orbit.specs.Got.{placed_answer, place_placed, numbers_place, got_answer, got_orbit, got_timing_answer, got_timing};
+ghost use Rattle.orbit.specs.Got.{placed_answer, place_placed, numbers_place, with_numbers, got_answer, got_orbit, got_timing_answer, got_timing};
 
-use ask::Answered;
+use ask::Answering;
 use fields::{Word1, Word2, Word3, Word4, Word5, Word6, Word10};
 use gst::Gst;
 use refusals::Refusal;
 use svn::Svn;
 
 // The scaled fields of an orbit: each whole number times 2^-k, exactly. Angles are in semicircles, their harmonic corrections in radians.
+// kept: C reads this struct and the next by their fields (include/dawnstook.h), which differ, so neither is an instance of the other.
 #[repr(C)]
 #[derive(Clone, Copy)]
 pub struct Scaled {
@@ -146,32 +147,15 @@ const WORD6_AT: usize = 0;
 
 const WORD10_AT: usize = WORD6_AT + Word6::BITS;
 
-// Where the record starts whose data may be read as numbers, its count and its time; or why there is none.
+// What was read of authenticated data: its count, its time and its numbers.
 #[derive(Clone, Copy)]
-pub enum Placed {
-    At(usize, u16, Gst),
-    IssuesDiffer,
-    OtherSatellite,
-    Refused(Refusal),
+pub struct Got<T> {
+    pub authbits: u16,
+    pub gst: Gst,
+    pub numbers: T,
 }
 
-// What reading an orbit came to: its count, its time and its numbers; or why there is none.
-#[derive(Clone, Copy)]
-pub enum GotOrbit {
-    Found(u16, Gst, Orbit),
-    IssuesDiffer,
-    OtherSatellite,
-    Refused(Refusal),
-}
-
-// What reading the timing parameters came to.
-#[derive(Clone, Copy)]
-pub enum GotTiming {
-    Found(u16, Gst, TimingNumbers),
-    Refused(Refusal),
-}
-
-#[tactic(auto, unfolding(crate::specs::Numbers::scaled_of, crate::specs::Numbers::scaled_from, fields::specs::Words::word1_numbers, fields::specs::Words::word2_numbers, fields::specs::Words::word3_numbers, fields::specs::Words::word4_numbers, fields::specs::Words::word5_numbers, paper::specs::Double::doubles_of, paper::specs::Field::named, paper::specs::Field::fields_along, paper::specs::Word::table, paper::specs::Field::fields_in, paper::specs::Field::layouts))]
+// kept beside `scaled_timing`, as `orbit_of` beside `timing_of`: they differ in their fields and not in a type alone.
 fn scaled_of(w1: Word1, w2: Word2, w3: Word3, w4: Word4, w5: Word5) -> Scaled
     ensures { result ≡ scaled_of w1 w2 w3 w4 w5 }
 {
@@ -202,7 +186,6 @@ fn scaled_of(w1: Word1, w2: Word2, w3: Word3, w4: Word4, w5: Word5) -> Scaled
     }
 }
 
-#[tactic(auto, unfolding(crate::specs::Numbers::scaled_timing_of, crate::specs::Numbers::scaled_timing_from, fields::specs::Words::word6_numbers, fields::specs::Words::word10_numbers, paper::specs::Double::doubles_of, paper::specs::Field::named, paper::specs::Field::fields_along, paper::specs::Word::table, paper::specs::Field::fields_in, paper::specs::Field::layouts))]
 fn scaled_timing(w6: Word6, w10: Word10) -> ScaledTiming
     ensures { result ≡ scaled_timing_of w6 w10 }
 {
@@ -215,7 +198,6 @@ fn scaled_timing(w6: Word6, w10: Word10) -> ScaledTiming
 }
 
 // The numbers of CED data; those of no data are 0.
-#[tactic(auto, unfolding(crate::specs::Numbers::orbit_from, paper::specs::Field::in_record, paper::specs::Word::table))]
 pub fn orbit_of(bytes: &[u8]) -> Orbit
     ensures { result ≡ orbit_from bytes.now }
 {
@@ -236,7 +218,6 @@ pub fn orbit_of(bytes: &[u8]) -> Orbit
 }
 
 // The numbers of timing data; those of no data are 0.
-#[tactic(auto, unfolding(crate::specs::Numbers::timing_from, paper::specs::Field::in_record, paper::specs::Word::table))]
 pub fn timing_of(bytes: &[u8]) -> TimingNumbers
     ensures { result ≡ timing_from bytes.now }
 {
@@ -251,7 +232,7 @@ pub fn timing_of(bytes: &[u8]) -> TimingNumbers
 }
 
 // STORE 20.6: whether the four IODnav are all equal
-#[tactic(auto, unfolding(paper::specs::Orbit::one_issue, paper::specs::Field::named, paper::specs::Field::numbers_at, paper::specs::Field::fields_in, paper::specs::Field::layouts, paper::specs::Field::in_record, paper::specs::Word::table))]
+#[tactic(auto, using(crate::proofs::Issues::issues_at))]
 fn one_issue(bytes: &[u8]) -> bool
     ensures { result ≡ one_issue bytes.now }
 {
@@ -266,66 +247,57 @@ fn one_issue(bytes: &[u8]) -> bool
 }
 
 // STORE 20.6: whether word 4 names the satellite
-#[tactic(auto, unfolding(paper::specs::Field::named, paper::specs::Field::numbers_at, paper::specs::Field::fields_in, paper::specs::Field::layouts, paper::specs::Field::in_record, paper::specs::Word::table))]
+#[tactic(auto, using(crate::proofs::Issues::svid_at))]
 fn names(bytes: &[u8], sat: u8) -> bool
     ensures { result ≡ eqb (svid_of bytes.now) sat }
 {
-    fields::whole(bytes, WORD4_AT + Word4::IODNAV, Word4::SVID) == numbers::as_u32(sat)
+    fields::whole(bytes, WORD4_AT + Word4::IODNAV, Word4::SVID) == u32::from(sat)
 }
 
-// Where the data may be read: 3, 4, 12, 24, 7, and for CED 21, 22.
-#[tactic(auto, unfolding(paper::specs::Orbit::numbers_tests))]
-pub fn place(room: &[u8], timing: bool, svn: Svn) -> Placed
+// The record whose data may be read: 3, 4, 12, 24, 7, and for CED 21, 22.
+pub fn place(room: &[u8], timing: bool, svn: Svn) -> Result<Answering, Refusal>
     ensures { (placed_answer result ≡ numbers_answer (family_if timing) svn.0 room.now)
         × (place_placed result ≡ numbers_place (family_if timing) svn.0 room.now) }
 {
-    match ask::ask(room, timing, svn) {
-        Answered::Record(at, authbits, gst) => {
-            if timing {
-                return Placed::At(at, authbits, gst);
-            }
-            let bytes = lookup::data_of(room, at, false);
-            if !one_issue(bytes) {
-                return Placed::IssuesDiffer;
-            }
-            if !names(bytes, svn.0) {
-                return Placed::OtherSatellite;
-            }
-            Placed::At(at, authbits, gst)
-        }
-        Answered::Refused(why) => Placed::Refused(why),
+    let answer = ask::ask(room, timing, svn)?;
+    if timing {
+        return Ok(answer);
+    }
+    let bytes = lookup::data_of(room, answer.at, false);
+    if !one_issue(bytes) {
+        return Err(Refusal::IssuesDiffer);
+    }
+    if !names(bytes, svn.0) {
+        return Err(Refusal::OtherSatellite);
+    }
+    Ok(answer)
+}
+
+// The numbers of a record, beside the count and the time that asking told of it.
+fn with_numbers<T>(answer: Answering, numbers: T) -> Got<T>
+    ensures { result ≡ with_numbers answer numbers }
+{
+    Got {
+        authbits: answer.authbits,
+        gst: answer.gst,
+        numbers,
     }
 }
 
 // Authenticated ephemeris, clock and status of a satellite, as numbers.
-pub fn get_orbit(room: &[u8], svn: Svn) -> GotOrbit
+pub fn get_orbit(room: &[u8], svn: Svn) -> Result<Got<Orbit>, Refusal>
     ensures { (got_answer result ≡ numbers_answer CED svn.0 room.now)
         × (got_orbit result ≡ orbit_from (numbers_data CED svn.0 room.now)) }
 {
-    match place(room, false, svn) {
-        Placed::At(at, authbits, gst) => GotOrbit::Found(
-            authbits,
-            gst,
-            orbit_of(lookup::data_of(room, at, false)),
-        ),
-        Placed::IssuesDiffer => GotOrbit::IssuesDiffer,
-        Placed::OtherSatellite => GotOrbit::OtherSatellite,
-        Placed::Refused(why) => GotOrbit::Refused(why),
-    }
+    let answer = place(room, false, svn)?;
+    Ok(with_numbers(answer, orbit_of(lookup::data_of(room, answer.at, false))))
 }
 
 // Authenticated timing parameters of a satellite, as numbers.
-#[tactic(auto, unfolding(paper::specs::Orbit::numbers_tests))]
-pub fn get_timing_numbers(room: &[u8], svn: Svn) -> GotTiming
+pub fn get_timing_numbers(room: &[u8], svn: Svn) -> Result<Got<TimingNumbers>, Refusal>
     ensures { (got_timing_answer result ≡ numbers_answer TIMING svn.0 room.now)
         × (got_timing result ≡ timing_from (numbers_data TIMING svn.0 room.now)) }
 {
-    match ask::ask(room, true, svn) {
-        Answered::Record(at, authbits, gst) => GotTiming::Found(
-            authbits,
-            gst,
-            timing_of(lookup::data_of(room, at, true)),
-        ),
-        Answered::Refused(why) => GotTiming::Refused(why),
-    }
+    let answer = ask::ask(room, true, svn)?;
+    Ok(with_numbers(answer, timing_of(lookup::data_of(room, answer.at, true))))
 }

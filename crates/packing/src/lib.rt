@@ -7,17 +7,14 @@ ghost use Rattle.paper.specs.Field.{bits_at};
 ghost use Rattle.paper.specs.Message.{digits_of, bits_from, in_bytes};
 ghost use Rattle.packing.specs.Big.{put_big};
 
-use numbers::as_u32;
-
 // v in the first k bytes, the top byte first.
+#[tactic(auto, using(crate::proofs::Written::big_turn, crate::proofs::Written::big_end))]
 fn put_big(d: &mut [u8], k: usize, v: u64)
     requires { k ≤ length d.old }
     ensures { d.new ≡ put_big d.old k v }
 {
-    let mut at = k;
     let mut rest = v;
-    while at > 0 {
-        at -= 1;
+    for at in (0..k).rev() {
         d[at] = (rest % 256) as u8;
         rest = rest / 256;
     }
@@ -30,10 +27,8 @@ fn big(s: &[u8], k: usize) -> u64
     ensures { result ≡ bits_at s.now 0 (8 * k) }
 {
     let mut v = 0u64;
-    let mut i = 0;
-    while i < k {
-        v = v * 256 + as_u32(s[i]) as u64;
-        i += 1;
+    for &byte in &s[..k] {
+        v = v * 256 + u64::from(byte);
     }
     v
 }
@@ -53,6 +48,7 @@ pub fn write(out: &mut [u8], k: usize, head: u64, bytes: &[u8])
 }
 
 // The head.
+#[tactic(auto, using(crate::proofs::Written::head_cut))]
 pub fn head(message: &[u8], k: usize) -> u64
     requires { (k < length message.now) × (k ≤ 7) }
     ensures { result ≡ bits_at message.now 0 (8 * k + 2) }

@@ -1,15 +1,14 @@
--- The laws of parts: what a part is after a change of it, before it or behind it; a loop over parts, one turn and its end; tests and
--- sums over parts; a copy within one list. Assumes nothing.
+-- The laws of parts: what a part is after a change of it, before it or behind it; a turn of a loop over parts; tests and sums
+-- over parts; a copy within one list. Assumes nothing.
 use native.Mathlib.Omega.{arith}
 use native.Mathlib.Nat.{suc-mul, sub-zero, zero-sub, suc-sub-suc, mul-le-mul_right, add-sub_cancel_left}
 use native.Mathlib.Numerals.{add-one}
 use mathlib.Core.Path.{◌≡◌, refl, sym, ap, ◌∙◌}
 use mathlib.Core.List.{List, [], ◌∷◌, ◌++◌, append_assoc}
 use mathlib.Core.Bool.{Bool, true, false, ◌&&◌}
-use mathlib.Core.Logic.{◌⊎◌, ⊎_elim}
 use Prim.Native.Nat.{ℕ, zero, suc, ◌+◌, ◌*◌, ◌-◌, ◌≤◌, ◌<◌}
-use lib.ListN.{length, take, drop, get_or, set, replicate, length-take, length-drop, length-replicate, replicate-append-replicate, get_or-append, take-append-drop}
-use lib.Seq.{take-nil, take-take, drop-drop, take_at, drop_at, drop-append-le, take-add, length-take-le, get_or-take, get_or-drop, get_or-append-add, paste, paste-suc, length_paste_head}
+use lib.ListN.{length, take, drop, get_or, set, replicate, length-take, length-drop, length-replicate, replicate-append-replicate, take-append-drop}
+use lib.Seq.{take-nil, take-take, drop-drop, take_at, drop_at, drop-append-le, take-add, length-take-le, get_or-take, get_or-drop, paste}
 use borrow.Rule.Slice.PartMut.{same_len_mid, take_put, drop_put, put_same, set_mid_at}
 use Rattle.paper.specs.Parts.{part, on_part, on_parts, all_parts, sum_parts}
 
@@ -18,10 +17,6 @@ abbrev pub Keeps : (List ℕ → List ℕ) → ℕ → Type 0
 Keeps f k = (r : List ℕ) → length r ≡ k → length (f r) ≡ k
 
 -- ---- where a part lies
-pub mul_step : (l z : ℕ) → 0 < l → l * z ≡ (l - 1) * z + z
-mul_step zero z h = absurd (omega arith)
-mul_step (suc k) z h = let e : suc k - 1 ≡ k = omega arith in rw (e, suc-mul)
-
 -- part number j of n lies within them
 pub mul_within : (j n k : ℕ) → j < n → j * k + k ≤ n * k
 mul_within j n k h = omega (arith, mul-le-mul_right k h, suc-mul j k)
@@ -238,17 +233,17 @@ on_part_nested f a k b m l h g =
     ∙ ap (λ (x : List ℕ). x ++ (r ++ drop k (drop (b + a) l))) (sym (take-add b a l)))
 
 -- ---- n parts changed, one after the other
--- a turn of the loop, and its end
-pub parts_step : (f : List ℕ → List ℕ) (k left at : ℕ) (r m : List ℕ) → 0 < left → m ≡ on_parts f k left at r
-    → m ≡ on_parts f k (left - 1) (at + k) (on_part f at k r)
+-- part number n is changed last
+on_parts_last : (f : List ℕ → List ℕ) (k n at : ℕ) (l : List ℕ) → on_parts f k (suc n) at l ≡ on_part f (at + n * k) k (on_parts f k n at l)
 unfolding on_parts
-parts_step f k zero at r m h e = absurd (omega arith)
-parts_step f k (suc n) at r m h e = let q : suc n - 1 ≡ n = omega arith in rw q e
+on_parts_last f k zero at l = rw at_first refl
+on_parts_last f k (suc n) at l = rw at_next (on_parts_last f k n (at + k) (on_part f at k l))
 
-pub parts_done : (f : List ℕ → List ℕ) (k left at : ℕ) (r m : List ℕ) → left ≤ 0 → m ≡ on_parts f k left at r → r ≡ m
-unfolding on_parts
-parts_done f k zero at r m h e = sym e
-parts_done f k (suc n) at r m h e = absurd (omega arith)
+-- a turn of the loop over them: the first i are changed, and part number i, which was lent, comes back changed
+pub parts_turn : (f : List ℕ → List ℕ) (k i at from : ℕ) (r l y : List ℕ) → from ≡ at + i * k → l ≡ on_parts f k i at r
+    → y ≡ f (take (from + k - from) (drop from l)) → take from l ++ (y ++ drop (from + k - from) (drop from l)) ≡ on_parts f k (i + 1) at r
+parts_turn f k i at from r l y p q e =
+    part_back_at f from k l y e ∙ ap (λ (a : ℕ). on_part f a k l) p ∙ ap (on_part f (at + i * k) k) q ∙ rw add-one (sym (on_parts_last f k i at r))
 
 module _ (f : List ℕ → List ℕ) (k : ℕ) (keep : Keeps f k) where
   -- the first of n + 1 parts lies within the list, and so do the rest behind it once it is changed
@@ -341,25 +336,6 @@ on_parts_nested f k keep (suc n) a b m l h g =
     ∙ on_parts_nested f k keep n (a + k) b m (on_part f (b + a) k l) (omega (arith, q)) (omega (arith, on_part_length f k keep (b + a) l j)))
 
 -- ---- a test of n parts
--- the first part and the rest
-all_step : (p : List ℕ → Bool) (k left at : ℕ) (l : List ℕ) → 0 < left → all_parts p k left at l ≡ (p (part at k l) && all_parts p k (left - 1) (at + k) l)
-unfolding all_parts
-all_step p k zero at l h = absurd (omega arith)
-all_step p k (suc n) at l h = let e : suc n - 1 ≡ n = omega arith in rw e
-
--- a turn of the loop that stops at the first part that fails, one that goes on, and its end
-pub all_stop : (p : List ℕ → Bool) (k left at : ℕ) (l : List ℕ) (b : Bool) → 0 < left → b ≡ all_parts p k left at l → p (part at k l) ≡ false → false ≡ b
-all_stop p k left at l b h e f = sym (e ∙ all_step p k left at l h ∙ ap (λ (t : Bool). t && all_parts p k (left - 1) (at + k) l) f)
-
-pub all_go : (p : List ℕ → Bool) (k left at : ℕ) (l : List ℕ) (b : Bool) → 0 < left → b ≡ all_parts p k left at l → p (part at k l) ≡ true
-    → b ≡ all_parts p k (left - 1) (at + k) l
-all_go p k left at l b h e f = e ∙ all_step p k left at l h ∙ ap (λ (t : Bool). t && all_parts p k (left - 1) (at + k) l) f
-
-pub all_done : (p : List ℕ → Bool) (k left at : ℕ) (l : List ℕ) (b : Bool) → left ≤ 0 → b ≡ all_parts p k left at l → true ≡ b
-unfolding all_parts
-all_done p k zero at l b h e = sym e
-all_done p k (suc n) at l b h e = absurd (omega arith)
-
 both_true : (a b : Bool) → (a && b) ≡ true → (a ≡ true) × (b ≡ true)
 both_true true b e = (refl, e)
 both_true false b e = let z : ◌≡◌ {A = ℕ} 0 1 = cc in absurd (omega arith)
@@ -371,6 +347,30 @@ all_part p k zero at l e j h = absurd (omega arith)
 all_part p k (suc n) at l e zero h = rw at_first (both_true (p (part at k l)) (all_parts p k n (at + k) l) e).0
 all_part p k (suc n) at l e (suc j) h =
     rw at_next (all_part p k n (at + k) l (both_true (p (part at k l)) (all_parts p k n (at + k) l) e).1 j (omega arith))
+
+-- it holds of the first i and of part number i
+all_more : (p : List ℕ → Bool) (k i at : ℕ) (l : List ℕ) → all_parts p k i at l ≡ true → p (part (at + i * k) k l) ≡ true → all_parts p k (suc i) at l ≡ true
+unfolding all_parts
+all_more p k zero at l e h = let t : p (part at k l) ≡ true = rw at_first at h in rw t refl
+all_more p k (suc i) at l e h =
+    let both = both_true (p (part at k l)) (all_parts p k i (at + k) l) e in
+    rw (both.0, all_more p k i (at + k) l both.1 (rw at_next at h)) refl
+
+-- a turn of the loop over them that goes on, and one that ends at part number i, which was lent
+pub all_go : (p : List ℕ → Bool) (k i at from : ℕ) (l : List ℕ) → from ≡ at + i * k → all_parts p k i at l ≡ true
+    → p (take (from + k - from) (drop from l)) ≡ true → all_parts p k (i + 1) at l ≡ true
+all_go p k i at from l q e h = let t : p (part (at + i * k) k l) ≡ true = rw (part_lent, q) at h in rw add-one (all_more p k i at l e t)
+
+pub all_stop : (p : List ℕ → Bool) (k n i at from : ℕ) (l : List ℕ) → from ≡ at + i * k → i < n
+    → p (take (from + k - from) (drop from l)) ≡ false → false ≡ all_parts p k n at l
+all_stop p k n i at from l q h e = go (all_parts p k n at l) refl
+  where
+    go : (b : Bool) → all_parts p k n at l ≡ b → false ≡ b
+    go true w =
+        let t : p (part (at + i * k) k l) ≡ true = all_part p k n at l w i h in
+        let f : p (part (at + i * k) k l) ≡ false = rw (part_lent, q) at e in
+        cc
+    go false w = refl
 
 -- it is the same where it is the same of each part
 pub all_same : (p q : List ℕ → Bool) (k n a b : ℕ) (x y : List ℕ) → ((j : ℕ) → j < n → p (part (a + j * k) k x) ≡ q (part (b + j * k) k y))
@@ -412,17 +412,16 @@ all_within p k n a b m l h =
     (λ j g. let e : b + (a + j * k) ≡ b + a + j * k = omega arith in ap p (rw e at (part_part (a + j * k) k b m l (omega (arith, mul_within j n k g)))))
 
 -- ---- a sum over n parts
--- a turn of the loop that adds to a total, and its end
-pub sum_step : (g : List ℕ → ℕ) (k left at : ℕ) (l : List ℕ) (total sum y : ℕ) → 0 < left → total ≡ sum + sum_parts g k left at l → y ≡ g (part at k l)
-    → total ≡ sum + y + sum_parts g k (left - 1) (at + k) l
+-- part number n is added last
+sum_last : (g : List ℕ → ℕ) (k n at : ℕ) (l : List ℕ) → sum_parts g k (suc n) at l ≡ sum_parts g k n at l + g (part (at + n * k) k l)
 unfolding sum_parts
-sum_step g k zero at l total sum y h e q = absurd (omega arith)
-sum_step g k (suc n) at l total sum y h e q = let z : suc n - 1 ≡ n = omega arith in rw (z, q) (omega arith)
+sum_last g k zero at l = rw at_first (omega arith)
+sum_last g k (suc n) at l = rw at_next (omega (arith, sum_last g k n (at + k) l))
 
-pub sum_done : (g : List ℕ → ℕ) (k left at : ℕ) (l : List ℕ) (total sum : ℕ) → left ≤ 0 → total ≡ sum + sum_parts g k left at l → sum ≡ total
-unfolding sum_parts
-sum_done g k zero at l total sum h e = omega arith
-sum_done g k (suc n) at l total sum h e = absurd (omega arith)
+-- a turn of the loop over them that adds to a total
+pub sum_turn : (g : List ℕ → ℕ) (k i at : ℕ) (l : List ℕ) (sum y : ℕ) → sum ≡ sum_parts g k i at l → y ≡ g (part (at + i * k) k l)
+    → sum + y ≡ sum_parts g k (i + 1) at l
+sum_turn g k i at l sum y e q = rw (e, q, add-one) (sym (sum_last g k i at l))
 
 -- it is the same where it is the same of each part
 pub sum_same : (f g : List ℕ → ℕ) (k n a b : ℕ) (x y : List ℕ) → ((j : ℕ) → j < n → f (part (a + j * k) k x) ≡ g (part (b + j * k) k y))
@@ -435,10 +434,7 @@ sum_same f g k (suc n) a b x y e =
     sum_same f g k n (a + k) (b + k) x y (λ j h. rw (at_next a j k, at_next b j k) at (e (suc j) (omega arith))) in
     rw (here, rest)
 
--- what lies before the parts, or behind them, does not matter
-pub sum_after : (g : List ℕ → ℕ) (k n at e : ℕ) (x y : List ℕ) → drop e x ≡ drop e y → e ≤ at → sum_parts g k n at x ≡ sum_parts g k n at y
-sum_after g k n at e x y q h = sum_same g g k n at at x y (λ j i. ap g (same_after e (at + j * k) k x y q (omega arith)))
-
+-- what lies behind the parts does not matter
 pub sum_before : (g : List ℕ → ℕ) (k n at e : ℕ) (x y : List ℕ) → take e x ≡ take e y → at + n * k ≤ e → sum_parts g k n at x ≡ sum_parts g k n at y
 sum_before g k n at e x y q h = sum_same g g k n at at x y (λ j i. ap g (same_before e (at + j * k) k x y q (omega (arith, mul_within j n k i))))
 
@@ -454,38 +450,7 @@ unfolding sum_parts
 sum_most g k zero at b l h = omega arith
 sum_most g k (suc n) at b l h = omega (arith, h (part at k l), sum_most g k n (at + k) b l h, suc-mul n b)
 
--- ---- a copy of w bytes within one list, byte by byte, forward: it may lie before what it copies, or wholly behind it
--- what the copy has not reached, or has passed, reads as it did
-copy_source : (l s : List ℕ) (from to w i : ℕ) → (to ≤ from) ⊎ (from + w ≤ to) → from + w ≤ length l → to + w ≤ length l → i < w → i ≤ length s
-    → get_or (paste l to s i) (from + i) 0 ≡ get_or l (from + i) 0
-copy_source l s from to w i d a b h k =
-    let hd : to ≤ length l = omega arith in
-    let p = length_paste_head l to s i hd k in
-    ⊎_elim
-    (λ (q : to ≤ from).
-    let e : from + i ≡ length (take to l ++ take i s) + (from - to) = omega (arith, p) in
-    let e2 : to + i + (from - to) ≡ from + i = omega arith in
-    ap (λ (j : ℕ). get_or (paste l to s i) j 0) e
-    ∙ get_or-append-add (take to l ++ take i s) (drop (to + i) l) (from - to) 0
-    ∙ get_or-drop (to + i) l (from - to) 0
-    ∙ ap (λ (j : ℕ). get_or l j 0) e2)
-    (λ (q : from + w ≤ to).
-    let lt1 : from + i < length (take to l ++ take i s) = omega (arith, p) in
-    let lt2 : from + i < length (take to l) = omega (arith, length-take-le to l hd) in
-    get_or-append (take to l ++ take i s) (drop (to + i) l) 0 (from + i) lt1
-    ∙ get_or-append (take to l) (take i s) 0 (from + i) lt2
-    ∙ get_or-take to l (from + i) 0 (omega arith))
-    d
-
--- the loop's invariant is r ≡ paste l to (drop from l) i: a turn, and its end (its start is `paste-zero`)
-pub copy_turn : (l r : List ℕ) (from to w i : ℕ) → (to ≤ from) ⊎ (from + w ≤ to) → from + w ≤ length l → to + w ≤ length l → i < w
-    → r ≡ paste l to (drop from l) i → set r (to + i) (get_or r (from + i) 0) ≡ paste l to (drop from l) (i + 1)
-copy_turn l r from to w i d a b h q =
-    let hs : i < length (drop from l) = omega (arith, length-drop from l) in
-    let hi : i ≤ length (drop from l) = omega arith in
-    let hd : to + i < length l = omega arith in
-    rw (q, copy_source l (drop from l) from to w i d a b h hi, ← get_or-drop from l i 0, add-one) (paste-suc l to (drop from l) i 0 hd hs)
-
+-- ---- a copy of k bytes within one list, as the library's `copy_within` leaves it
 pub copy_done : (l : List ℕ) (from to k : ℕ) → paste l to (drop from l) k ≡ on_part (λ r. part from k l) to k l
 unfolding on_part
 copy_done l from to k = rw drop-drop (append_assoc (take to l) (part from k l) (drop (to + k) l))

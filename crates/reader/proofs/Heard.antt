@@ -1,7 +1,7 @@
 -- Bytes that are heard one behind the other are heard as one, and behind the end of an input all are. Assumes nothing.
 use native.Mathlib.Omega.{arith}
 use mathlib.Core.Path.{◌≡◌, refl, sym, ap, ◌∙◌}
-use mathlib.Core.Bool.{Bool, false}
+use Rattle.std.specs.Prelude.{Option, Some, None}
 use mathlib.Core.List.{List, [], ◌∷◌, ◌++◌}
 use Prim.Native.Nat.{ℕ, ◌+◌, ◌≤◌}
 use lib.ListN.{length, take, drop, replicate, take-append-drop, length-append}
@@ -67,24 +67,29 @@ heard_end reader room reader' e = record { stands = ap stage_in e ∙ end_back (
 
 -- ---- turns
 -- bytes that were read and taken, one of them at least
-pub taken_read : (course : Course) (failed : Bool) (reader room bytes reader' room' : List ℕ) → failed ≡ false → (length bytes ≡ 0 → ⊥)
-    → TakenBy course reader room bytes reader' room' → ReadBy course failed reader room bytes reader' room'
-taken_read More failed reader room bytes reader' room' e some t = (e, (some, t))
-taken_read Over failed reader room bytes reader' room' e some t = (e, (some, t))
-taken_read Unwritten failed reader room bytes reader' room' e some t = (e, (some, t))
-taken_read Finished failed reader room bytes reader' room' e some t = absurd t
-taken_read Unread failed reader room bytes reader' room' e some t = absurd t
+pub taken_read : (course : Course) (reader room bytes reader' room' : List ℕ) → (length bytes ≡ 0 → ⊥)
+    → TakenBy course reader room bytes reader' room' → ReadBy course (Some bytes) reader room reader' room'
+taken_read More reader room bytes reader' room' some t = (some, t)
+taken_read Over reader room bytes reader' room' some t = (some, t)
+taken_read Unwritten reader room bytes reader' room' some t = (some, t)
+taken_read Finished reader room bytes reader' room' some t = absurd t
+taken_read Unread reader room bytes reader' room' some t = absurd t
 
 -- what a read came to is a turn
-pub read_turned : (course : Course) (failed : Bool) (reader room bytes reader' room' : List ℕ) → ReadBy course failed reader room bytes reader' room'
+pub read_turned : (course : Course) (read : Option (List ℕ)) (reader room reader' room' : List ℕ) → ReadBy course read reader room reader' room'
     → Turned course 1 reader room reader' room'
-read_turned More failed reader room bytes reader' room' t =
-    let some = t.1.0 in
-    record { bytes = bytes; case = (t.1.1.0, (t.1.1.1, omega arith)) }
-read_turned Over failed reader room bytes reader' room' t = record { bytes = bytes; case = t.1.1 }
-read_turned Finished failed reader room bytes reader' room' t = record { bytes = []; case = t.1.1 }
-read_turned Unread failed reader room bytes reader' room' t = record { bytes = []; case = t.1 }
-read_turned Unwritten failed reader room bytes reader' room' t = record { bytes = take t.1.1.count bytes; case = t.1.1.heard }
+read_turned More (Some bytes) reader room reader' room' t =
+    let some = t.0 in
+    record { bytes = bytes; case = (t.1.0, (t.1.1, omega arith)) }
+read_turned Over (Some bytes) reader room reader' room' t = record { bytes = bytes; case = t.1 }
+read_turned Finished (Some bytes) reader room reader' room' t = record { bytes = []; case = t.1 }
+read_turned Unread (Some bytes) reader room reader' room' t = absurd t
+read_turned Unwritten (Some bytes) reader room reader' room' t = record { bytes = take t.1.count bytes; case = t.1.heard }
+read_turned More None reader room reader' room' t = absurd t
+read_turned Over None reader room reader' room' t = absurd t
+read_turned Finished None reader room reader' room' t = absurd t
+read_turned Unread None reader room reader' room' t = record { bytes = []; case = t }
+read_turned Unwritten None reader room reader' room' t = absurd t
 
 -- a turn more
 pub turned_then : (course : Course) (n least : ℕ) (reader room reader' room' reader'' room'' : List ℕ)

@@ -1,6 +1,6 @@
 -- STORE 17.4, 17.8: what the program has come to where it goes on or stops. What was read no contract can say: it is said for some bytes.
 -- That a read or a write failed no contract can say either.
-use Rattle.std.specs.Prelude.{ℕ, ◌^◌, ◌-◌, ◌≤◌, ◌≡◌, Bool, true, false, List, [], length, take}
+use Rattle.std.specs.Prelude.{ℕ, ◌^◌, ◌-◌, ◌≤◌, ◌≡◌, List, [], length, take, Option, Some, None}
 use Rattle.intake.specs.Input.{stage_of, items_of, stage_at_end, room_of}
 use Rattle.intake.specs.Reader.{stage_in, stage_number}
 use Rattle.reader.specs.declared.Course.{Course}
@@ -33,13 +33,18 @@ TakenBy Finished reader room bytes reader' room' = ⊥
 TakenBy Unread reader room bytes reader' room' = ⊥
 TakenBy Unwritten reader room bytes reader' room' = HeardSome reader room bytes reader' room'
 
--- what a read came to, failed or not: a failed one is nothing, one of no bytes is the end, and others are taken
-abbrev pub ReadBy : Course → Bool → List ℕ → List ℕ → List ℕ → List ℕ → List ℕ → Type 0
-ReadBy More failed reader room bytes reader' room' = (failed ≡ false) × ((length bytes ≡ 0 → ⊥) × TakenBy More reader room bytes reader' room')
-ReadBy Over failed reader room bytes reader' room' = (failed ≡ false) × ((length bytes ≡ 0 → ⊥) × TakenBy Over reader room bytes reader' room')
-ReadBy Finished failed reader room bytes reader' room' = (failed ≡ false) × ((length bytes ≡ 0) × HeardToEnd reader room [] reader' room')
-ReadBy Unread failed reader room bytes reader' room' = (failed ≡ true) × (HeardAll reader room [] reader' room' × GoesOn reader')
-ReadBy Unwritten failed reader room bytes reader' room' = (failed ≡ false) × ((length bytes ≡ 0 → ⊥) × TakenBy Unwritten reader room bytes reader' room')
+-- what a read came to, its bytes or none where it failed: a failed one is nothing, one of no bytes is the end, and others are taken
+abbrev pub ReadBy : Course → Option (List ℕ) → List ℕ → List ℕ → List ℕ → List ℕ → Type 0
+ReadBy More (Some bytes) reader room reader' room' = (length bytes ≡ 0 → ⊥) × TakenBy More reader room bytes reader' room'
+ReadBy Over (Some bytes) reader room reader' room' = (length bytes ≡ 0 → ⊥) × TakenBy Over reader room bytes reader' room'
+ReadBy Finished (Some bytes) reader room reader' room' = (length bytes ≡ 0) × HeardToEnd reader room [] reader' room'
+ReadBy Unread (Some bytes) reader room reader' room' = ⊥
+ReadBy Unwritten (Some bytes) reader room reader' room' = (length bytes ≡ 0 → ⊥) × TakenBy Unwritten reader room bytes reader' room'
+ReadBy More None reader room reader' room' = ⊥
+ReadBy Over None reader room reader' room' = ⊥
+ReadBy Finished None reader room reader' room' = ⊥
+ReadBy Unread None reader room reader' room' = HeardAll reader room [] reader' room' × GoesOn reader'
+ReadBy Unwritten None reader room reader' room' = ⊥
 
 -- reads: where the program goes on, so many bytes at least were read
 abbrev pub TurnedBy : Course → ℕ → List ℕ → List ℕ → List ℕ → List ℕ → List ℕ → Type 0

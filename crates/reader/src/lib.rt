@@ -2,7 +2,7 @@
 // programs `bench`, `trace` and `replay` are `run`.
 #![tactic(auto)]
 
-ghost use Rattle.std.specs.Prelude.{◌≡◌, replicate};
+ghost use Rattle.std.specs.Prelude.{◌≡◌, replicate, option_copied};
 ghost use Rattle.intake.specs.Input.{stage_at_end, bench_room};
 ghost use Rattle.intake.specs.Reader.{reader_bytes, stage_in, reader_of};
 ghost use Rattle.reader.specs.Turns.{GoesOn, TakenBy, ReadBy, Turned, most_turns};
@@ -19,6 +19,7 @@ const PRINTED: usize = 16 * (LONGEST_LINE + TRACE);
 
 // Whether the program goes on, and if not why: the input has ended for the reader, by a byte that is no kind byte; standard input has ended;
 // a read failed; a write failed.
+// kept: no Result, since each case is promised by itself (specs/Turns), and two of the ends are no failures
 #[derive(Drop)]
 enum Course {
     More,
@@ -38,6 +39,8 @@ fn print(rt: HostRuntime, bytes: &[u8]) -> bool {
 }
 
 // What was read: offered until all of it is taken or the input has ended.
+// kept: a `while`, since each turn goes on by as many bytes as were taken
+// kept: state and room are two parameters, here and below, as `intake` is lent them and `TakenBy` speaks of them
 fn take(
     rt: HostRuntime,
     reader: &mut [u8; READER],
@@ -75,24 +78,23 @@ fn finish(rt: HostRuntime, reader: &mut [u8; READER], room: &[u8], traced: bool)
     print(rt, &out[..said]);
 }
 
-// What a read of standard input came to: it failed, or it brought these bytes. None is the end of the input, and no part of it; a read that
+// What a read of standard input brought, or none where it failed. No bytes are the end of the input, and no part of it; a read that
 // failed stops the program with a line on standard error.
 fn hear(
     rt: HostRuntime,
     reader: &mut [u8; READER],
     room: &mut [u8],
-    failed: bool,
-    bytes: &[u8],
+    read: Option<&[u8]>,
     traced: bool,
 ) -> Course
     requires { GoesOn reader.old }
-    ensures { ReadBy result failed reader.old room.old bytes.now reader.new room.new }
+    ensures { ReadBy result (option_copied read.entry) reader.old room.old reader.new room.new }
 {
-    if failed {
+    let Some(bytes) = read else {
         let _ = eprintln!(rt; "cannot read standard input");
         return Course::Unread;
-    }
-    if bytes.len() == 0 {
+    };
+    if bytes.is_empty() {
         finish(rt, reader, room, traced);
         return Course::Finished;
     }
@@ -106,24 +108,22 @@ fn turn(rt: HostRuntime, reader: &mut [u8; READER], room: &mut [u8], traced: boo
 {
     let mut bytes = [0u8; READ];
     match rt.stdin().read(&mut bytes) {
-        Ok(n) => hear(rt, reader, room, false, &bytes[..n], traced),
-        Err(_) => hear(rt, reader, room, true, &[], traced),
+        Ok(n) => hear(rt, reader, room, Some(&bytes[..n]), traced),
+        Err(_) => hear(rt, reader, room, None, traced),
     }
 }
 
-// The program on the state and the room that it starts with. A proved loop has to end, and nothing says that an input does: it counts its
-// turns down, from a number that no run uses up.
+// The program on the state and the room that it starts with. A proved loop has to end, and nothing says that an input does: it has
+// as many turns as no run uses up.
 fn run_on(rt: HostRuntime, reader: &mut [u8; READER], room: &mut [u8], traced: bool) -> Course
     requires { (reader.old ≡ replicate reader_bytes 0) × (room.old ≡ replicate bench_room 0) }
     ensures { Turned result most_turns reader.old room.old reader.new room.new }
 {
-    let mut turns = u64::MAX;
-    while turns > 0 {
+    for _ in 0..u64::MAX {
         let came = turn(rt, reader, room, traced);
         let Course::More = came else {
             return came;
         };
-        turns -= 1;
     }
     Course::More
 }

@@ -4,28 +4,21 @@ use mathlib.Core.Path.{◌≡◌, sym, ◌∙◌}
 use borrow.Fn.Kinds.{res_t, ended_of, Dens}
 use denote.Triple.Clauses.{AtExit}
 use contract.Lifetimes.{Lfts}
+use mir.Syntax.{w64}
+use mir.Val.{Fits}
+use Prim.Native.Nat.{ℕ}
 use Rattle.records.proofs.one_older.Reads as one_older_reads
 use Rattle.records.proofs.one_older.Kinds as one_older_kinds
-use Rattle.records.proofs.Ced.ages.Reads as ced_ages_reads
-use Rattle.records.proofs.Ced.ages.Kinds as ced_ages_kinds
-use Rattle.records.proofs.Ced.put_ages.Reads as ced_put_ages_reads
-use Rattle.records.proofs.Ced.put_ages.Kinds as ced_put_ages_kinds
-use Rattle.records.proofs.Ced.older.Reads as ced_older_reads
-use Rattle.records.proofs.Ced.older.Kinds as ced_older_kinds
-use Rattle.records.proofs.Ced.greatest.Reads as ced_greatest_reads
-use Rattle.records.proofs.Ced.greatest.Kinds as ced_greatest_kinds
-use Rattle.records.proofs.Ced.least.Reads as ced_least_reads
-use Rattle.records.proofs.Ced.least.Kinds as ced_least_kinds
-use Rattle.records.proofs.Timing.ages.Reads as timing_ages_reads
-use Rattle.records.proofs.Timing.ages.Kinds as timing_ages_kinds
-use Rattle.records.proofs.Timing.put_ages.Reads as timing_put_ages_reads
-use Rattle.records.proofs.Timing.put_ages.Kinds as timing_put_ages_kinds
-use Rattle.records.proofs.Timing.older.Reads as timing_older_reads
-use Rattle.records.proofs.Timing.older.Kinds as timing_older_kinds
-use Rattle.records.proofs.Timing.greatest.Reads as timing_greatest_reads
-use Rattle.records.proofs.Timing.greatest.Kinds as timing_greatest_kinds
-use Rattle.records.proofs.Timing.least.Reads as timing_least_reads
-use Rattle.records.proofs.Timing.least.Kinds as timing_least_kinds
+use Rattle.records.proofs.ages.Reads as ages_reads
+use Rattle.records.proofs.ages.Kinds as ages_kinds
+use Rattle.records.proofs.put_ages.Reads as put_ages_reads
+use Rattle.records.proofs.put_ages.Kinds as put_ages_kinds
+use Rattle.records.proofs.older.Reads as older_reads
+use Rattle.records.proofs.older.Kinds as older_kinds
+use Rattle.records.proofs.greatest.Reads as greatest_reads
+use Rattle.records.proofs.greatest.Kinds as greatest_kinds
+use Rattle.records.proofs.least.Reads as least_reads
+use Rattle.records.proofs.least.Kinds as least_kinds
 use Rattle.records.proofs.size_of.Reads as size_of_reads
 use Rattle.records.proofs.size_of.Kinds as size_of_kinds
 use Rattle.records.proofs.bytes_of.Reads as bytes_of_reads
@@ -33,85 +26,55 @@ use Rattle.records.proofs.bytes_of.Kinds as bytes_of_kinds
 use Rattle.records.proofs.data_at.Reads as data_at_reads
 use Rattle.records.proofs.data_at.Kinds as data_at_kinds
 
-pub ced_ages_determined :
+pub ages_determined :
+    (N : ℕ)
+    (F : Fits w64 N)
+    (κs : Lfts 2)
+    (a : Dens κs (ages_kinds.ps N F))
+    (r r' : (res_t (ages_kinds.r N F) κs).Denot)
+    (e e' : AtExit (ended_of 2 (ages_kinds.ps N F) (ages_kinds.r N F)) κs)
+    → ages_reads.Post N F κs a r e → ages_reads.Post N F κs a r' e' → r ≡ r'
+ages_determined N F κs a r r' e e' p q = p ∙ sym q
+
+pub put_ages_determined :
+    (N : ℕ)
+    (F : Fits w64 N)
+    (κs : Lfts 2)
+    (a : Dens κs (put_ages_kinds.ps N F))
+    (r r' : (res_t (put_ages_kinds.r N F) κs).Denot)
+    (e e' : AtExit (ended_of 2 (put_ages_kinds.ps N F) (put_ages_kinds.r N F)) κs)
+    → put_ages_reads.Post N F κs a r e → put_ages_reads.Post N F κs a r' e' → e.0.now ≡ e'.0.now
+put_ages_determined N F κs a r r' e e' p q = p ∙ sym q
+
+pub older_determined :
+    (N : ℕ)
+    (F : Fits w64 N)
     (κs : Lfts 1)
-    (a : Dens κs ced_ages_kinds.ps)
-    (r r' : (res_t ced_ages_kinds.r κs).Denot)
-    (e e' : AtExit (ended_of 1 ced_ages_kinds.ps ced_ages_kinds.r) κs)
-    → ced_ages_reads.Post κs a r e → ced_ages_reads.Post κs a r' e' → r ≡ r'
-ced_ages_determined κs a r r' e e' p q = p ∙ sym q
+    (a : Dens κs (older_kinds.ps N F))
+    (r r' : (res_t (older_kinds.r N F) κs).Denot)
+    (e e' : AtExit (ended_of 1 (older_kinds.ps N F) (older_kinds.r N F)) κs)
+    → older_reads.Post N F κs a r e → older_reads.Post N F κs a r' e' → r ≡ r'
+older_determined N F κs a r r' e e' p q = p ∙ sym q
 
-pub ced_put_ages_determined :
+pub greatest_determined :
+    (N : ℕ)
+    (F : Fits w64 N)
     (κs : Lfts 1)
-    (a : Dens κs ced_put_ages_kinds.ps)
-    (r r' : (res_t ced_put_ages_kinds.r κs).Denot)
-    (e e' : AtExit (ended_of 1 ced_put_ages_kinds.ps ced_put_ages_kinds.r) κs)
-    → ced_put_ages_reads.Post κs a r e → ced_put_ages_reads.Post κs a r' e' → e.0.now ≡ e'.0.now
-ced_put_ages_determined κs a r r' e e' p q = p ∙ sym q
+    (a : Dens κs (greatest_kinds.ps N F))
+    (r r' : (res_t (greatest_kinds.r N F) κs).Denot)
+    (e e' : AtExit (ended_of 1 (greatest_kinds.ps N F) (greatest_kinds.r N F)) κs)
+    → greatest_reads.Post N F κs a r e → greatest_reads.Post N F κs a r' e' → r ≡ r'
+greatest_determined N F κs a r r' e e' p q = p ∙ sym q
 
-pub ced_older_determined :
-    (κs : Lfts 0)
-    (a : Dens κs ced_older_kinds.ps)
-    (r r' : (res_t ced_older_kinds.r κs).Denot)
-    (e e' : AtExit (ended_of 0 ced_older_kinds.ps ced_older_kinds.r) κs)
-    → ced_older_reads.Post κs a r e → ced_older_reads.Post κs a r' e' → r ≡ r'
-ced_older_determined κs a r r' e e' p q = p ∙ sym q
-
-pub ced_greatest_determined :
-    (κs : Lfts 0)
-    (a : Dens κs ced_greatest_kinds.ps)
-    (r r' : (res_t ced_greatest_kinds.r κs).Denot)
-    (e e' : AtExit (ended_of 0 ced_greatest_kinds.ps ced_greatest_kinds.r) κs)
-    → ced_greatest_reads.Post κs a r e → ced_greatest_reads.Post κs a r' e' → r ≡ r'
-ced_greatest_determined κs a r r' e e' p q = p ∙ sym q
-
-pub ced_least_determined :
-    (κs : Lfts 0)
-    (a : Dens κs ced_least_kinds.ps)
-    (r r' : (res_t ced_least_kinds.r κs).Denot)
-    (e e' : AtExit (ended_of 0 ced_least_kinds.ps ced_least_kinds.r) κs)
-    → ced_least_reads.Post κs a r e → ced_least_reads.Post κs a r' e' → r ≡ r'
-ced_least_determined κs a r r' e e' p q = p ∙ sym q
-
-pub timing_ages_determined :
+pub least_determined :
+    (N : ℕ)
+    (F : Fits w64 N)
     (κs : Lfts 1)
-    (a : Dens κs timing_ages_kinds.ps)
-    (r r' : (res_t timing_ages_kinds.r κs).Denot)
-    (e e' : AtExit (ended_of 1 timing_ages_kinds.ps timing_ages_kinds.r) κs)
-    → timing_ages_reads.Post κs a r e → timing_ages_reads.Post κs a r' e' → r ≡ r'
-timing_ages_determined κs a r r' e e' p q = p ∙ sym q
-
-pub timing_put_ages_determined :
-    (κs : Lfts 1)
-    (a : Dens κs timing_put_ages_kinds.ps)
-    (r r' : (res_t timing_put_ages_kinds.r κs).Denot)
-    (e e' : AtExit (ended_of 1 timing_put_ages_kinds.ps timing_put_ages_kinds.r) κs)
-    → timing_put_ages_reads.Post κs a r e → timing_put_ages_reads.Post κs a r' e' → e.0.now ≡ e'.0.now
-timing_put_ages_determined κs a r r' e e' p q = p ∙ sym q
-
-pub timing_older_determined :
-    (κs : Lfts 0)
-    (a : Dens κs timing_older_kinds.ps)
-    (r r' : (res_t timing_older_kinds.r κs).Denot)
-    (e e' : AtExit (ended_of 0 timing_older_kinds.ps timing_older_kinds.r) κs)
-    → timing_older_reads.Post κs a r e → timing_older_reads.Post κs a r' e' → r ≡ r'
-timing_older_determined κs a r r' e e' p q = p ∙ sym q
-
-pub timing_greatest_determined :
-    (κs : Lfts 0)
-    (a : Dens κs timing_greatest_kinds.ps)
-    (r r' : (res_t timing_greatest_kinds.r κs).Denot)
-    (e e' : AtExit (ended_of 0 timing_greatest_kinds.ps timing_greatest_kinds.r) κs)
-    → timing_greatest_reads.Post κs a r e → timing_greatest_reads.Post κs a r' e' → r ≡ r'
-timing_greatest_determined κs a r r' e e' p q = p ∙ sym q
-
-pub timing_least_determined :
-    (κs : Lfts 0)
-    (a : Dens κs timing_least_kinds.ps)
-    (r r' : (res_t timing_least_kinds.r κs).Denot)
-    (e e' : AtExit (ended_of 0 timing_least_kinds.ps timing_least_kinds.r) κs)
-    → timing_least_reads.Post κs a r e → timing_least_reads.Post κs a r' e' → r ≡ r'
-timing_least_determined κs a r r' e e' p q = p ∙ sym q
+    (a : Dens κs (least_kinds.ps N F))
+    (r r' : (res_t (least_kinds.r N F) κs).Denot)
+    (e e' : AtExit (ended_of 1 (least_kinds.ps N F) (least_kinds.r N F)) κs)
+    → least_reads.Post N F κs a r e → least_reads.Post N F κs a r' e' → r ≡ r'
+least_determined N F κs a r r' e e' p q = p ∙ sym q
 
 pub size_of_determined :
     (κs : Lfts 0)

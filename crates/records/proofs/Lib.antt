@@ -1,2 +1,2 @@
-pub mod Ages
+pub mod Folds
 pub mod Determined

@@ -2,8 +2,9 @@
 // What is done to ages is written once, over any number of them.
 #![tactic(auto)]
 
-ghost use Rattle.std.specs.Prelude.{◌≡◌, map, max, min, length};
-ghost use Rattle.paper.specs.Record.{CED, Timing as TIMING, family_if, size, data_at, data_bytes, ages_of, with_ages, older, greatest, least};
+ghost use Rattle.std.specs.Prelude.{◌≡◌, ◌+◌, ◌≤◌, ℕ, List, map, length};
+ghost use Rattle.paper.specs.Parts.{part, on_part};
+ghost use Rattle.paper.specs.Record.{family_if, size, data_at, data_bytes, ages_at, older, greatest, least};
 
 // Where the fields of a record of either family start, each behind the one before it: its satellite is one byte.
 pub const SATELLITE_AT: usize = 0;
@@ -38,47 +39,6 @@ impl Ced {
     pub const DATA_AT: usize = AGES_AT + Ced::WORDS;
     // the bytes of a record
     pub const SIZE: usize = Ced::DATA_AT + Ced::BYTES;
-
-    // The ages of a record.
-    pub fn ages(bytes: &[u8]) -> [u8; Ced::WORDS]
-        requires { length bytes.now ≡ size CED }
-        ensures { result ≡ ages_of CED bytes.now }
-    {
-        let mut found = [0u8; Ced::WORDS];
-        copy(&mut found, &bytes[AGES_AT..AGES_AT + Ced::WORDS]);
-        found
-    }
-
-    // The record with these ages in the place of its own.
-    pub fn put_ages(bytes: &mut [u8], new: [u8; Ced::WORDS])
-        requires { length bytes.old ≡ size CED }
-        ensures { bytes.new ≡ with_ages CED new bytes.old }
-    {
-        copy(&mut bytes[AGES_AT..AGES_AT + Ced::WORDS], &new);
-    }
-
-    // Each age so much more, held at 255.
-    pub fn older(ages: [u8; Ced::WORDS], by: u8) -> [u8; Ced::WORDS]
-        ensures { result ≡ map (older by) ages }
-    {
-        let mut aged = ages;
-        all_older(&mut aged, by);
-        aged
-    }
-
-    // The greatest of the ages.
-    pub fn greatest(ages: [u8; Ced::WORDS]) -> u8
-        ensures { result ≡ greatest ages }
-    {
-        greatest_of(&ages)
-    }
-
-    // The least of the ages.
-    pub fn least(ages: [u8; Ced::WORDS]) -> u8
-        ensures { result ≡ least ages }
-    {
-        least_of(&ages)
-    }
 }
 
 // STORE 6: the sizes of a timing record.
@@ -96,47 +56,6 @@ impl Timing {
     pub const DATA_AT: usize = AGES_AT + Timing::WORDS;
     // the bytes of a record
     pub const SIZE: usize = Timing::DATA_AT + Timing::BYTES;
-
-    // The ages of a record.
-    pub fn ages(bytes: &[u8]) -> [u8; Timing::WORDS]
-        requires { length bytes.now ≡ size TIMING }
-        ensures { result ≡ ages_of TIMING bytes.now }
-    {
-        let mut found = [0u8; Timing::WORDS];
-        copy(&mut found, &bytes[AGES_AT..AGES_AT + Timing::WORDS]);
-        found
-    }
-
-    // The record with these ages in the place of its own.
-    pub fn put_ages(bytes: &mut [u8], new: [u8; Timing::WORDS])
-        requires { length bytes.old ≡ size TIMING }
-        ensures { bytes.new ≡ with_ages TIMING new bytes.old }
-    {
-        copy(&mut bytes[AGES_AT..AGES_AT + Timing::WORDS], &new);
-    }
-
-    // Each age so much more, held at 255.
-    pub fn older(ages: [u8; Timing::WORDS], by: u8) -> [u8; Timing::WORDS]
-        ensures { result ≡ map (older by) ages }
-    {
-        let mut aged = ages;
-        all_older(&mut aged, by);
-        aged
-    }
-
-    // The greatest of the ages.
-    pub fn greatest(ages: [u8; Timing::WORDS]) -> u8
-        ensures { result ≡ greatest ages }
-    {
-        greatest_of(&ages)
-    }
-
-    // The least of the ages.
-    pub fn least(ages: [u8; Timing::WORDS]) -> u8
-        ensures { result ≡ least ages }
-    {
-        least_of(&ages)
-    }
 }
 
 // The whole record of either family, from whether it is timing.
@@ -164,67 +83,54 @@ pub fn data_at(timing: bool) -> usize
     }
 }
 
-// What follows is over any number of ages.
-fn copy(to: &mut [u8], from: &[u8])
-    requires { length to.old ≡ length from.now }
-    ensures { to.new ≡ from.now }
+// What follows is over any number of ages: those of a CED record are `Ced::WORDS`, those of a timing record `Timing::WORDS`.
+
+// The ages of a record.
+pub fn ages<const N: usize>(bytes: &[u8]) -> [u8; N]
+    requires { ages_at + N ≤ length bytes.now }
+    ensures { result ≡ part ages_at N bytes.now }
 {
-    let mut i: usize = 0;
-    while i < from.len() {
-        to[i] = from[i];
-        i += 1;
-    }
+    let mut found = [0u8; N];
+    found.copy_from_slice(&bytes[AGES_AT..AGES_AT + N]);
+    found
+}
+
+// The record with these ages in the place of its own.
+pub fn put_ages<const N: usize>(bytes: &mut [u8], new: [u8; N])
+    requires { ages_at + N ≤ length bytes.old }
+    ensures { bytes.new ≡ on_part (λ (_ : List ℕ). new.entry) ages_at N bytes.old }
+{
+    bytes[AGES_AT..AGES_AT + N].copy_from_slice(&new);
 }
 
 // STORE 6.5: an age so much more, held at the greatest.
 pub fn one_older(age: u8, by: u8) -> u8
     ensures { result ≡ older by age }
 {
-    if by < OLDEST - age { age + by } else { OLDEST }
+    age.saturating_add(by)
 }
 
-fn all_older(ages: &mut [u8], by: u8)
-    ensures { ages.new ≡ map (older by) ages.old }
+// Each age so much more.
+pub fn older<const N: usize>(ages: [u8; N], by: u8) -> [u8; N]
+    ensures { result ≡ map (older by) ages.entry }
 {
-    let mut i: usize = 0;
-    while i < ages.len() {
-        ages[i] = one_older(ages[i], by);
-        i += 1;
+    let mut aged = ages;
+    for age in aged.iter_mut() {
+        *age = one_older(*age, by);
     }
+    aged
 }
 
-fn larger(a: u8, b: u8) -> u8
-    ensures { result ≡ max a b }
+// The greatest of the ages.
+pub fn greatest<const N: usize>(ages: [u8; N]) -> u8
+    ensures { result ≡ greatest ages.entry }
 {
-    if a < b { b } else { a }
+    ages.iter().fold(0, |top: u8, age| top.max(*age))
 }
 
-fn smaller(a: u8, b: u8) -> u8
-    ensures { result ≡ min a b }
+// The least of the ages.
+pub fn least<const N: usize>(ages: [u8; N]) -> u8
+    ensures { result ≡ least ages.entry }
 {
-    if a < b { a } else { b }
-}
-
-fn greatest_of(ages: &[u8]) -> u8
-    ensures { result ≡ greatest ages.now }
-{
-    let mut top: u8 = 0;
-    let mut i: usize = 0;
-    while i < ages.len() {
-        top = larger(top, ages[i]);
-        i += 1;
-    }
-    top
-}
-
-fn least_of(ages: &[u8]) -> u8
-    ensures { result ≡ least ages.now }
-{
-    let mut low: u8 = OLDEST;
-    let mut i: usize = 0;
-    while i < ages.len() {
-        low = smaller(low, ages[i]);
-        i += 1;
-    }
-    low
+    ages.iter().fold(OLDEST, |low: u8, age| low.min(*age))
 }

@@ -2,18 +2,18 @@
 use native.Mathlib.Omega.{arith}
 use mathlib.Core.Path.{◌≡◌, refl, sym, ap, ◌∙◌}
 use mathlib.Core.List.{List, []}
-use mathlib.Core.Bool.{cond}
+use mathlib.Core.Bool.{false, cond}
 use mathlib.Core.Logic.{◌≢◌}
 use lib.Dec.{eqb, eqb-suc-zero}
 use Prim.Native.Nat.{ℕ, zero, suc, ◌≤◌}
+use Rattle.std.specs.Prelude.{⊤, Result, Ok, Err, IsErr, IsErrAnd}
 use Rattle.paper.specs.Number.{done, refused, answer}
 use Rattle.paper.specs.Answer.{room_for, part_for}
-use Rattle.refusals.specs.Reply.{refusal_number, reply_answer}
+use Rattle.refusals.specs.Reply.{refusal_number, answer_of, reply_answer}
 use Rattle.refusals.specs.declared.Refusal.{Refusal}
 use Rattle.refusals.specs.declared.Refusal.TheVariants.{Sizes, TooShort, NotAStore, NoSatellite, TowTooLarge, NotAStart, TimeArithmetic, NotAllowed}
-use Rattle.refusals.specs.declared.Refusal.TheVariants.{UnknownCode, NoCandidate, OtherData, NotEnough, Earlier, Dummy, VerdictNo, StatusAddsNothing, AgeUnknown}
-use Rattle.refusals.specs.declared.Reply.{Reply}
-use Rattle.refusals.specs.declared.Reply.TheVariants.{Done, Refused}
+use Rattle.refusals.specs.declared.Refusal.TheVariants.{UnknownCode, NoCandidate, OtherData, NotEnough, UnknownKind, CutShort, Earlier, Dummy}
+use Rattle.refusals.specs.declared.Refusal.TheVariants.{VerdictNo, StatusAddsNothing, IssuesDiffer, OtherSatellite, AgeUnknown, PaddingSet}
 
 -- the refusal of a number, back from `refusal_number`
 refusal_of : ℕ → Refusal
@@ -30,11 +30,16 @@ refusal_of n =
     (cond (eqb n 10) NoCandidate
     (cond (eqb n 11) OtherData
     (cond (eqb n 12) NotEnough
+    (cond (eqb n 13) UnknownKind
+    (cond (eqb n 14) CutShort
     (cond (eqb n 15) Earlier
     (cond (eqb n 16) Dummy
     (cond (eqb n 17) VerdictNo
     (cond (eqb n 18) StatusAddsNothing
-    AgeUnknown))))))))))))))))
+    (cond (eqb n 21) IssuesDiffer
+    (cond (eqb n 22) OtherSatellite
+    (cond (eqb n 24) AgeUnknown
+    PaddingSet)))))))))))))))))))))
 
 back : (why : Refusal) → refusal_of (refusal_number why) ≡ why
 unfolding refusal_of
@@ -50,11 +55,16 @@ back UnknownCode = refl
 back NoCandidate = refl
 back OtherData = refl
 back NotEnough = refl
+back UnknownKind = refl
+back CutShort = refl
 back Earlier = refl
 back Dummy = refl
 back VerdictNo = refl
 back StatusAddsNothing = refl
+back IssuesDiffer = refl
+back OtherSatellite = refl
 back AgeUnknown = refl
+back PaddingSet = refl
 
 -- two refusals with one number are one
 pub same_refusal : (a b : Refusal) → refusal_number a ≡ refusal_number b → a ≡ b
@@ -74,38 +84,54 @@ above_zero UnknownCode = omega arith
 above_zero NoCandidate = omega arith
 above_zero OtherData = omega arith
 above_zero NotEnough = omega arith
+above_zero UnknownKind = omega arith
+above_zero CutShort = omega arith
 above_zero Earlier = omega arith
 above_zero Dummy = omega arith
 above_zero VerdictNo = omega arith
 above_zero StatusAddsNothing = omega arith
+above_zero IssuesDiffer = omega arith
+above_zero OtherSatellite = omega arith
 above_zero AgeUnknown = omega arith
+above_zero PaddingSet = omega arith
 
--- and none has a number that reading an orbit, 21 and 22, or reading a message, 26, has of its own
-pub never_theirs : (why : Refusal) → (refusal_number why ≢ 21) × (refusal_number why ≢ 22) × (refusal_number why ≢ 26)
-never_theirs Sizes = (omega arith, omega arith, omega arith)
-never_theirs TooShort = (omega arith, omega arith, omega arith)
-never_theirs NotAStore = (omega arith, omega arith, omega arith)
-never_theirs NoSatellite = (omega arith, omega arith, omega arith)
-never_theirs TowTooLarge = (omega arith, omega arith, omega arith)
-never_theirs NotAStart = (omega arith, omega arith, omega arith)
-never_theirs TimeArithmetic = (omega arith, omega arith, omega arith)
-never_theirs NotAllowed = (omega arith, omega arith, omega arith)
-never_theirs UnknownCode = (omega arith, omega arith, omega arith)
-never_theirs NoCandidate = (omega arith, omega arith, omega arith)
-never_theirs OtherData = (omega arith, omega arith, omega arith)
-never_theirs NotEnough = (omega arith, omega arith, omega arith)
-never_theirs Earlier = (omega arith, omega arith, omega arith)
-never_theirs Dummy = (omega arith, omega arith, omega arith)
-never_theirs VerdictNo = (omega arith, omega arith, omega arith)
-never_theirs StatusAddsNothing = (omega arith, omega arith, omega arith)
-never_theirs AgeUnknown = (omega arith, omega arith, omega arith)
+pub not_zero : (why : Refusal) → eqb (refusal_number why) 0 ≡ false
+not_zero Sizes = refl
+not_zero TooShort = refl
+not_zero NotAStore = refl
+not_zero NoSatellite = refl
+not_zero TowTooLarge = refl
+not_zero NotAStart = refl
+not_zero TimeArithmetic = refl
+not_zero NotAllowed = refl
+not_zero UnknownCode = refl
+not_zero NoCandidate = refl
+not_zero OtherData = refl
+not_zero NotEnough = refl
+not_zero UnknownKind = refl
+not_zero CutShort = refl
+not_zero Earlier = refl
+not_zero Dummy = refl
+not_zero VerdictNo = refl
+not_zero StatusAddsNothing = refl
+not_zero IssuesDiffer = refl
+not_zero OtherSatellite = refl
+not_zero AgeUnknown = refl
+not_zero PaddingSet = refl
+
+-- what is handed back is known by its answer, where a value is by its numbers: two with one answer are one
+pub same_answer :
+    {T : Type 0} (values : T → List ℕ) →
+    ((x y : T) → values x ≡ values y → x ≡ y) →
+    (a b : Result T Refusal) → answer_of values a ≡ answer_of values b → a ≡ b
+same_answer values one (Ok x) (Ok y) e = ap Ok (one x y cc)
+same_answer values one (Ok x) (Err w) e = absurd (let z : ◌≡◌ {A = ℕ} 0 1 = cc in omega arith)
+same_answer values one (Err v) (Ok y) e = absurd (let z : ◌≡◌ {A = ℕ} 0 1 = cc in omega arith)
+same_answer values one (Err v) (Err w) e = let n : refusal_number v ≡ refusal_number w = cc in ap Err (same_refusal v w n)
 
 -- two replies with one answer are one
-pub same_reply : (a b : Reply) → reply_answer a ≡ reply_answer b → a ≡ b
-same_reply Done Done e = refl
-same_reply Done (Refused w) e = absurd (let z : ◌≡◌ {A = ℕ} 0 1 = cc in omega arith)
-same_reply (Refused v) Done e = absurd (let z : ◌≡◌ {A = ℕ} 0 1 = cc in omega arith)
-same_reply (Refused v) (Refused w) e = let n : refusal_number v ≡ refusal_number w = cc in ap Refused (same_refusal v w n)
+pub same_reply : (a b : Result ⊤ Refusal) → reply_answer a ≡ reply_answer b → a ≡ b
+same_reply = same_answer (λ _. []) (λ _ _ _. refl)
 
 -- the answer for a number that is not 0 is its refusal
 pub answer_refused : (k : ℕ) (v : List ℕ) → 1 ≤ k → answer k v ≡ refused k
@@ -134,8 +160,17 @@ pub done_room : (n : ℕ) (after room : List ℕ) → n ≡ 0 → after ≡ room
 done_room n after room e = rw e
 
 -- a reply that refuses leaves the room, and one that is done has the number 0
-pub refuses : (r : Reply) (w : Refusal) (k : ℕ) (v after room : List ℕ) → r ≡ Refused w → reply_answer r ≡ answer k v → room ≡ room_for k after room
+pub refuses :
+    (r : Result ⊤ Refusal) (w : Refusal) (k : ℕ) (v after room : List ℕ) →
+    r ≡ Err w → reply_answer r ≡ answer k v → room ≡ room_for k after room
 refuses r w k v after room q e = refused_room (refusal_number w) k v after room (ap reply_answer (sym q) ∙ e)
 
-pub does : (r : Reply) (k : ℕ) (v : List ℕ) → r ≡ Done → reply_answer r ≡ answer k v → k ≡ 0
+pub does : (r : Result ⊤ Refusal) (k : ℕ) (v : List ℕ) → r ≡ Ok tt → reply_answer r ≡ answer k v → k ≡ 0
 does r k v q e = done_number k v [] (ap reply_answer (sym q) ∙ e)
+
+-- `?` hands a refusal on as it is
+pub handed_on :
+    {T : Type 0} (r : Result T Refusal) (w : Refusal) →
+    IsErr r × IsErrAnd r (λ e. e ≡ w) → r ≡ Err w
+handed_on (Ok x) w p = absurd p.1
+handed_on (Err e) w p = ap Err p.1

@@ -7,7 +7,7 @@ ghost use Rattle.paper.specs.Record.{family_if, with_count};
 ghost use Rattle.paper.specs.Reset.{reset};
 ghost use Rattle.paper.specs.Room.{header_size, slot_size, row_size, room_size, depth, slots, in_slot, each_record};
 
-use layout::{HEADER, ROW_HEAD, SLOT};
+use layout::{HEADER, SLOT};
 use records::COUNT_AT;
 
 fn clear_slot(slot: &mut [u8], timing: bool)
@@ -17,34 +17,27 @@ fn clear_slot(slot: &mut [u8], timing: bool)
     numbers::write16(slot, layout::base(timing) + COUNT_AT, 0);
 }
 
-#[tactic(auto, unfolding(paper::specs::Room::each_record))]
+#[tactic(auto, using(paper::proofs::Parts::parts_turn), unfolding(paper::specs::Parts::on_parts, paper::specs::Room::each_record))]
 fn clear_each(row: &mut [u8], n: usize, timing: bool)
     requires { row_size n ≤ length row.old }
     ensures { row.new ≡ each_record (family_if timing) n (with_count 0) row.old }
 {
-    let mut at = ROW_HEAD;
-    let mut left = n;
-    while left > 0 {
-        let e = at + SLOT;
-        clear_slot(&mut row[at..e], timing);
-        at = e;
-        left -= 1;
+    for i in 0..n {
+        let at = rows::slot_start(i);
+        clear_slot(&mut row[at..at + SLOT], timing);
     }
 }
 
+#[tactic(auto, using(paper::proofs::Parts::parts_turn), unfolding(paper::specs::Parts::on_parts))]
 fn clear_rows(room: &mut [u8], d: usize, n: usize, timing: bool)
     requires { (n < 256) × (room_size d n ≤ length room.old) }
     ensures { room.new
         ≡ on_parts (each_record (family_if timing) n (with_count 0)) (row_size n) d header_size room.old }
 {
     let row = rows::row_size(n);
-    let mut at = HEADER;
-    let mut left = d;
-    while left > 0 {
-        let next = at + row;
-        clear_each(&mut room[at..next], n, timing);
-        at = next;
-        left -= 1;
+    for r in 0..d {
+        let at = HEADER + r * row;
+        clear_each(&mut room[at..at + row], n, timing);
     }
 }
 

@@ -3,8 +3,9 @@
 // ageing rule says.
 #![tactic(auto)]
 
-ghost use Rattle.std.specs.Prelude.{◌≡◌, cond, ◌⊎◌, ◌+◌, ◌≤◌, length};
-ghost use Rattle.paper.specs.Record.{CED, Timing as TIMING, size, aged};
+ghost use Rattle.std.specs.Prelude.{◌≡◌, cond, ◌⊎◌, ◌+◌, ◌≤◌, length, map};
+ghost use Rattle.paper.specs.Parts.{on_part};
+ghost use Rattle.paper.specs.Record.{ages_at, older};
 ghost use Rattle.paper.specs.Room.{slot_size, row_size};
 ghost use Rattle.paper.specs.Store.{InRange};
 ghost use Rattle.paper.specs.Feed.{moves, rises_by, copied, aged_row, advanced, current_marked, settled};
@@ -13,37 +14,24 @@ ghost use Rattle.ring.specs.Slot.{aged_slot};
 use layout::{CURRENT_AT, ROW_HEAD, SLOT, TIMING_AT};
 use records::{Ced, Timing};
 
-// STORE 10.3, the copy: forward, so that a row may be copied onto itself, as where D is 1.
-#[tactic(auto, unfolding(paper::specs::Feed::copied))]
+// STORE 10.3, the copy. A row may be copied onto itself, as where D is 1.
+#[tactic(auto, using(paper::proofs::Parts::copy_done), unfolding(paper::specs::Feed::copied))]
 pub fn copy_records(room: &mut [u8], n: usize, from: usize, to: usize)
-    requires fact { (to ≤ from) ⊎ (from + row_size n ≤ to) }
-    requires n_in_bounds { (from + row_size n ≤ length room.old) × (to + row_size n ≤ length room.old) }
+    requires in_room { (from + row_size n ≤ length room.old) × (to + row_size n ≤ length room.old) }
     ensures { room.new ≡ copied n from to room.old }
 {
     let a = from + ROW_HEAD;
-    let b = to + ROW_HEAD;
-    let w = n * SLOT;
-    let mut i: usize = 0;
-    while i < w {
-        room[b + i] = room[a + i];
-        i += 1;
-    }
+    room.copy_within(a..a + n * SLOT, to + ROW_HEAD);
 }
 
-fn age_ced(rec: &mut [u8], by: u8)
-    requires { length rec.old ≡ size CED }
-    ensures { rec.new ≡ aged CED by rec.old }
+// A record's ages so much more: they are read, made older by value, and put back.
+#[tactic(auto, using(paper::proofs::Parts::on_part_by))]
+fn age<const N: usize>(rec: &mut [u8], by: u8)
+    requires { ages_at + N ≤ length rec.old }
+    ensures { rec.new ≡ on_part (map (older by)) ages_at N rec.old }
 {
-    let ages = Ced::ages(rec);
-    Ced::put_ages(rec, Ced::older(ages, by));
-}
-
-fn age_timing(rec: &mut [u8], by: u8)
-    requires { length rec.old ≡ size TIMING }
-    ensures { rec.new ≡ aged TIMING by rec.old }
-{
-    let ages = Timing::ages(rec);
-    Timing::put_ages(rec, Timing::older(ages, by));
+    let ages: [u8; N] = records::ages(rec);
+    records::put_ages(rec, records::older(ages, by));
 }
 
 // Both records of a slot in one turn.
@@ -51,22 +39,19 @@ fn age_slot(slot: &mut [u8], by: u8)
     requires { length slot.old ≡ slot_size }
     ensures { slot.new ≡ aged_slot by slot.old }
 {
-    age_ced(&mut slot[0..TIMING_AT], by);
-    age_timing(&mut slot[TIMING_AT..SLOT], by);
+    age::<{ Ced::WORDS }>(&mut slot[0..TIMING_AT], by);
+    age::<{ Timing::WORDS }>(&mut slot[TIMING_AT..SLOT], by);
 }
 
 // STORE 10.3: every age of the row so much more
+#[tactic(auto, using(paper::proofs::Parts::parts_turn, crate::proofs::Turn::aged_once), unfolding(paper::specs::Parts::on_parts))]
 pub fn age_row(row: &mut [u8], n: usize, by: u8)
     requires { row_size n ≤ length row.old }
     ensures { row.new ≡ aged_row by n row.old }
 {
-    let mut at = ROW_HEAD;
-    let mut left = n;
-    while left > 0 {
-        let e = at + SLOT;
-        age_slot(&mut row[at..e], by);
-        at = e;
-        left -= 1;
+    for i in 0..n {
+        let at = rows::slot_start(i);
+        age_slot(&mut row[at..at + SLOT], by);
     }
 }
 
@@ -83,6 +68,7 @@ fn has_other_subframe(room: &[u8], week: u16, time: u32) -> bool
 }
 
 // STORE 10.3: the next row filled by the copy, current, and so much older
+#[tactic(auto, using(crate::proofs::Turn::current_fits, crate::proofs::Turn::next_fits, paper::proofs::WordViews::next_row_lt))]
 fn advance(room: &mut [u8], by: u8)
     requires { InRange room.old }
     ensures { room.new ≡ advanced by room.old }
@@ -92,6 +78,7 @@ fn advance(room: &mut [u8], by: u8)
     let next = rows::next_row(rows::depth(room), c);
     let to = rows::row_start(n, next);
     copy_records(room, n, rows::row_start(n, c), to);
+    // kept: `next` is below D, a byte, so it fits; `u8::try_from` would test what is proved
     room[CURRENT_AT] = next as u8;
     let e = to + rows::row_size(n);
     age_row(&mut room[to..e], n, by);

@@ -2,7 +2,7 @@
 // its subframe.
 #![tactic(auto)]
 
-ghost use Rattle.std.specs.Prelude.{◌≡◌, ◌≤◌, ◌<◌, length};
+ghost use Rattle.std.specs.Prelude.{◌≡◌, ◌^◌, ◌≤◌, ◌<◌, length};
 ghost use Rattle.paper.specs.Record.{family_if};
 ghost use Rattle.paper.specs.Room.{header_size, head_size, row_size, room_size, depth, slots, current, by_time, row_at, row_of, marked, is_at, slot_at, record_at};
 ghost use Rattle.paper.specs.Store.{InRange};
@@ -19,7 +19,7 @@ pub fn depth(room: &[u8]) -> usize
     requires { header_size ≤ length room.now }
     ensures { (result ≡ depth room.now) × (result < 256) }
 {
-    numbers::as_usize(room[DEPTH_AT])
+    usize::from(room[DEPTH_AT])
 }
 
 // N: how many slots a row has.
@@ -27,7 +27,7 @@ pub fn slots(room: &[u8]) -> usize
     requires { header_size ≤ length room.now }
     ensures { (result ≡ slots room.now) × (result < 256) }
 {
-    numbers::as_usize(room[SLOTS_AT])
+    usize::from(room[SLOTS_AT])
 }
 
 // Which row is current.
@@ -35,7 +35,7 @@ pub fn current(room: &[u8]) -> usize
     requires { header_size ≤ length room.now }
     ensures { (result ≡ current room.now) × (result < 256) }
 {
-    numbers::as_usize(room[CURRENT_AT])
+    usize::from(room[CURRENT_AT])
 }
 
 // STORE 7.7: whether ages count time.
@@ -81,9 +81,10 @@ pub fn row(room: &[u8], r: usize) -> &[u8]
     &room[at..e]
 }
 
-// Where slot i starts in its row.
+// Where slot i starts in its row. Loops over slots and rows go by their number: of a slice that was lent to `chunks_exact_mut` a proof
+// knows afterwards its length alone.
 pub fn slot_start(i: usize) -> usize
-    requires { i < 256 }
+    requires { slot_at i < 2 ^ 64 }
     ensures { result ≡ slot_at i }
 {
     ROW_HEAD + i * SLOT

@@ -1,4 +1,5 @@
 // Signed numbers: whether one is below 0, one without its sign, and the one that 32 bits are.
+// kept: three functions over the library's methods, since docs/PROMISES.md has them and their theorems
 #![tactic(auto)]
 
 ghost use Rattle.std.specs.Prelude.{◌≡◌, not, nat_abs};
@@ -9,18 +10,14 @@ ghost use Rattle.signs.specs.Signs.{twos_complement};
 pub fn below_zero(n: i32) -> bool
     ensures { result ≡ not (non_neg n) }
 {
-    n < 0
+    n.is_negative()
 }
 
 // A number without its sign: the least i32 has a size too.
 pub fn size(n: i32) -> u32
     ensures { result ≡ nat_abs n }
 {
-    let wide = n as i64;
-    if wide < 0 {
-        return (0 - wide) as u32;
-    }
-    wide as u32
+    n.unsigned_abs()
 }
 
 // The number that four bytes are in two's complement.
@@ -28,8 +25,5 @@ pub fn size(n: i32) -> u32
 pub fn of_bits(x: u32) -> i32
     ensures { result ≡ twos_complement x }
 {
-    if x < 2147483648 {
-        return x as i32;
-    }
-    -1 - ((4294967295 - x) as i32)
+    x.cast_signed()
 }

@@ -1,20 +1,20 @@
 -- A slot that is passed at one look is allowed: a slot that holds nothing in every row, one of one satellite where that may be held.
 -- Assumes nothing.
 use native.Mathlib.Omega.{arith}
-use mathlib.Core.Path.{◌≡◌, refl, sym, ◌∙◌}
+use mathlib.Core.Path.{◌≡◌, refl}
 use mathlib.Core.Bool.{Bool, true, false, ◌&&◌}
 use mathlib.Core.List.{List}
 use Prim.Native.Nat.{ℕ, ◌+◌, ◌-◌, ◌*◌, ◌%◌, ◌<◌, ◌≤◌}
 use borrow.Author.Tests.{eqb-true, eq-eqb, leb-true}
 use lib.Dec.{leb, eqb}
-use lib.ListN.{length, get_or}
+use lib.ListN.{get_or}
 use Rattle.paper.proofs.Parts.{get_d_part}
 use Rattle.paper.proofs.StoreFacts.{both_true, true_both}
 use Rattle.paper.specs.Big.{be16, be32}
 use Rattle.paper.specs.Parts.{part}
 use Rattle.paper.specs.Record.{Family, CED, Timing, satellite_at, count_at, ages_at, size, satellite, count, last_weight}
 use Rattle.paper.specs.Room.{base, slot_size}
-use Rattle.paper.specs.Store.{satellite_allowed, count_has_satellite, no_bit_past, record_allowed, slot_allowed}
+use Rattle.paper.specs.Store.{no_bit_past, record_allowed, slot_allowed}
 use Rattle.store.proofs.Records.{Held, held_known, held_none}
 use Rattle.store.specs.Slot.{is_empty, is_shared, is_plain}
 

@@ -3,7 +3,7 @@
 // look at both its records: see `is_plain`.
 #![tactic(auto)]
 
-ghost use Rattle.std.specs.Prelude.{◌≡◌, ◌&&◌, ◌+◌, ◌*◌, ◌≤◌, ◌<◌, leb, length};
+ghost use Rattle.std.specs.Prelude.{◌≡◌, true, ◌&&◌, ◌+◌, ◌*◌, ◌≤◌, ◌<◌, leb, length};
 ghost use Rattle.paper.specs.Parts.{all_parts};
 ghost use Rattle.paper.specs.Record.{Family, ages_at, size, satellite, count};
 ghost use Rattle.paper.specs.Room.{header_size, head_size, slot_size, row_size, room_size};
@@ -62,8 +62,8 @@ fn holds(record: &[u8]) -> u32
     requires { ages_at ≤ length «record».now }
     ensures { result ≡ satellite «record».now * 65536 + count «record».now }
 {
-    let satellite = record[SATELLITE_AT] as u32;
-    let count = numbers::read16(record, COUNT_AT) as u32;
+    let satellite = u32::from(record[SATELLITE_AT]);
+    let count = u32::from(numbers::read16(record, COUNT_AT));
     satellite * 65536 + count
 }
 
@@ -134,38 +134,32 @@ fn is_plain(slot: &[u8], most: u8) -> bool
     is_empty(slot)
 }
 
-// Record by record, the `count` slots from `from` on.
-fn rest_allowed(row: &[u8], from: usize, count: usize, most: u8) -> bool
-    requires { from + count * slot_size ≤ length row.now }
-    ensures { result ≡ all_parts (slot_allowed most) slot_size count from row.now }
+// How many slots from the first on are passed at one look.
+#[tactic(auto, using(paper::proofs::Parts::all_go, crate::proofs::Slots::plain_allowed), unfolding(paper::specs::Parts::all_parts))]
+fn passed(row: &[u8], n: usize, most: u8) -> usize
+    requires { row_size n ≤ length row.now }
+    ensures { (result ≤ n) × (all_parts (slot_allowed most) slot_size result head_size row.now ≡ true) }
 {
-    let mut at = from;
-    let mut left = count;
-    while left > 0 {
-        let e = at + SLOT;
-        if !slot_allowed(&row[at..e], most) {
-            return false;
+    for i in 0..n {
+        let at = rows::slot_start(i);
+        if !is_plain(&row[at..at + SLOT], most) {
+            return i;
         }
-        at = e;
-        left -= 1;
     }
-    true
+    n
 }
 
 // From the first slot on that needs more than a look, record by record.
+#[tactic(auto, using(paper::proofs::Parts::all_go))]
 fn slots_allowed(row: &[u8], n: usize, most: u8) -> bool
     requires { row_size n ≤ length row.now }
     ensures { result ≡ all_parts (slot_allowed most) slot_size n head_size row.now }
 {
-    let mut at = ROW_HEAD;
-    let mut left = n;
-    while left > 0 {
-        let e = at + SLOT;
-        if !is_plain(&row[at..e], most) {
-            return rest_allowed(row, at, left, most);
+    for i in passed(row, n, most)..n {
+        let at = rows::slot_start(i);
+        if !slot_allowed(&row[at..at + SLOT], most) {
+            return false;
         }
-        at = e;
-        left -= 1;
     }
     true
 }
@@ -225,20 +219,17 @@ fn row_allowed(row: &[u8], n: usize) -> bool
     slots_allowed(row, n, MOST_SATELLITES)
 }
 
+#[tactic(auto, using(paper::proofs::Parts::all_go, paper::proofs::Parts::all_stop), unfolding(paper::specs::Parts::all_parts))]
 fn rows_allowed(room: &[u8], d: usize, n: usize) -> bool
     requires { (n < 256) × (room_size d n ≤ length room.now) }
     ensures { result ≡ all_parts (row_allowed n) (row_size n) d header_size room.now }
 {
     let row = rows::row_size(n);
-    let mut at = HEADER;
-    let mut left = d;
-    while left > 0 {
-        let e = at + row;
-        if !row_allowed(&room[at..e], n) {
+    for r in 0..d {
+        let at = HEADER + r * row;
+        if !row_allowed(&room[at..at + row], n) {
             return false;
         }
-        at = e;
-        left -= 1;
     }
     true
 }

@@ -1,8 +1,8 @@
 -- No call asks anything of its caller: what each asks holds of all arguments. Assumes nothing.
 use borrow.Fn.Kinds.{Dens}
 use contract.Lifetimes.{Lfts}
-use Rattle.svn.proofs.Svn.try_from.Reads as try_from
-use Rattle.svn.proofs.Svn.try_from.Kinds as try_from_kinds
+use Rattle.svn.proofs.SvnTryFromU8.try_from.Reads as try_from
+use Rattle.svn.proofs.SvnTryFromU8.try_from.Kinds as try_from_kinds
 use Rattle.svn.proofs.Svn.is_satellite.Reads as is-satellite
 use Rattle.svn.proofs.Svn.is_satellite.Kinds as is_satellite_kinds
 use Rattle.svn.proofs.Svn.letters.Reads as letters

@@ -8,8 +8,8 @@ use Rattle.svn.proofs.Svn.is_satellite.Reads as is_satellite_reads
 use Rattle.svn.proofs.Svn.is_satellite.Kinds as is_satellite_kinds
 use Rattle.svn.proofs.Svn.letters.Reads as letters_reads
 use Rattle.svn.proofs.Svn.letters.Kinds as letters_kinds
-use Rattle.svn.proofs.Svn.try_from.Reads as try_from_reads
-use Rattle.svn.proofs.Svn.try_from.Kinds as try_from_kinds
+use Rattle.svn.proofs.SvnTryFromU8.try_from.Reads as try_from_reads
+use Rattle.svn.proofs.SvnTryFromU8.try_from.Kinds as try_from_kinds
 
 pub try_from_determined :
     (κs : Lfts 0)

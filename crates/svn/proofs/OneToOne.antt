@@ -1,20 +1,17 @@
 -- An answer of `svn` is known by the paper's number and value: no two answers have the same.
-use mathlib.Core.Path.{◌≡◌, refl, sym, ap, ◌∙◌}
-use mathlib.Core.List.{[], ◌∷◌}
-use Rattle.paper.specs.Number.{Answer, done, refused}
+use mathlib.Core.Path.{◌≡◌, ap}
+use Prim.Native.Nat.{ℕ}
+use Rattle.std.specs.Prelude.{List, [], ◌∷◌, Result}
+use Rattle.refusals.specs.declared.Refusal.{Refusal}
+use Rattle.refusals.proofs.Answers.{same_answer}
 use Rattle.svn.specs.Answer.{satellite_answer}
-use Rattle.svn.specs.declared.Satellite.{Satellite}
-use Rattle.svn.specs.declared.Satellite.TheVariants.{Of, NoSatellite}
+use Rattle.svn.specs.declared.Svn.{Svn}
 
--- the satellite from its number and value
-abbrev satellite_from : Answer → Satellite
-satellite_from (done []) = NoSatellite
-satellite_from (done (s ∷ l)) = Of (record { 0 = s })
-satellite_from (refused k) = NoSatellite
+abbrev svn_of : ℕ → Svn
+svn_of k = record { 0 = k }
 
-satellite_from_answer_of : (r : Satellite) → satellite_from (satellite_answer r) ≡ r
-satellite_from_answer_of (Of s) = refl
-satellite_from_answer_of NoSatellite = refl
+svn_one : (s s' : Svn) → ◌≡◌ {A = List ℕ} (s.0 ∷ []) (s'.0 ∷ []) → s ≡ s'
+svn_one s s' e = let n : s.0 ≡ s'.0 = cc in ap svn_of n
 
-pub satellite_one : (r r' : Satellite) → satellite_answer r ≡ satellite_answer r' → r ≡ r'
-satellite_one r r' e = sym (satellite_from_answer_of r) ∙ ap satellite_from e ∙ satellite_from_answer_of r'
+pub satellite_one : (r r' : Result Svn Refusal) → satellite_answer r ≡ satellite_answer r' → r ≡ r'
+satellite_one = same_answer (λ s. s.0 ∷ []) svn_one

@@ -5,33 +5,31 @@ ghost use Rattle.std.specs.Prelude.{◌≡◌};
 ghost use Rattle.svn.specs.Answer.{satellite_answer};
 ghost use Rattle.paper.specs.Satellite.{is_satellite, satellite_of, letters_of};
 
+use refusals::Refusal;
+
 pub const MOST_SATELLITES: u8 = 36;
 
 // A satellite's number. The public field can hold any, so whoever is given one asks `is_satellite`.
-#[derive(Clone, Copy)]
+#[derive(Clone, Copy, PartialEq, Eq)]
 pub struct Svn(pub u8);
 
-// The satellite of a number, or that there is none.
-#[derive(Clone, Copy)]
-pub enum Satellite {
-    Of(Svn),
-    // 4: the number is not 1 to 36.
-    NoSatellite,
+impl TryFrom<u8> for Svn {
+    type Error = Refusal;
+
+    ghost try_from_gives = { λ number r. satellite_answer r ≡ satellite_of number };
+
+    // The satellite of a number: 4 where it is not 1 to 36.
+    #[tactic(auto, unfolding(paper::specs::Satellite::satellite_of))]
+    fn try_from(number: u8) -> Result<Svn, Refusal> {
+        let svn = Svn(number);
+        if svn.is_satellite() {
+            return Ok(svn);
+        }
+        Err(Refusal::NoSatellite)
+    }
 }
 
 impl Svn {
-    // The satellite of a number: 4.
-    #[tactic(auto, unfolding(paper::specs::Satellite::satellite_of))]
-    pub fn try_from(number: u8) -> Satellite
-        ensures { satellite_answer result ≡ satellite_of number }
-    {
-        let svn = Svn(number);
-        if svn.is_satellite() {
-            return Satellite::Of(svn);
-        }
-        Satellite::NoSatellite
-    }
-
     // Whether the number is 1 to 36.
     pub fn is_satellite(self) -> bool
         ensures { result ≡ is_satellite self.0 }

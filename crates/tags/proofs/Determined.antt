@@ -10,8 +10,8 @@ use mathlib.Core.List.{List}
 use Prim.Native.Nat.{ℕ}
 use Rattle.refusals.proofs.Answers.{same_refusal, above_zero}
 use Rattle.tags.specs.Candidates.{Placed, tagged_answer}
-use Rattle.tags.specs.declared.Candidate.{Candidate}
-use Rattle.tags.specs.declared.Candidate.TheVariants.{At, Refused}
+use Rattle.std.specs.Prelude.{Result, Ok, Err}
+use Rattle.refusals.specs.declared.Refusal.{Refusal}
 use Rattle.tags.proofs.candidate_of.Reads as place
 use Rattle.tags.proofs.candidate_of.Kinds as place_kinds
 use Rattle.tags.proofs.candidate_shown.Reads as shown
@@ -26,12 +26,12 @@ pub accept_determined :
 accept_determined κs a r r' e e' p q = (p.0 ∙ sym q.0, p.1 ∙ sym q.1)
 
 -- one place, or one refusal
-same_place : (allowed known : Bool) (sat kind cop w t : ℕ) (room : List ℕ) (x y : Candidate)
+same_place : (allowed known : Bool) (sat kind cop w t : ℕ) (room : List ℕ) (x y : Result ℕ Refusal)
     → Placed x allowed known sat kind cop w t room → Placed y allowed known sat kind cop w t room → x ≡ y
-same_place allowed known sat kind cop w t room (At x) (At y) p q = ap At (p.1.place ∙ sym q.1.place)
-same_place allowed known sat kind cop w t room (At x) (Refused v) p q = absurd (omega (arith, p.0 0, q 0, above_zero v))
-same_place allowed known sat kind cop w t room (Refused v) (At y) p q = absurd (omega (arith, q.0 0, p 0, above_zero v))
-same_place allowed known sat kind cop w t room (Refused v) (Refused u) p q = ap Refused (same_refusal v u (sym (p 0) ∙ q 0))
+same_place allowed known sat kind cop w t room (Ok x) (Ok y) p q = ap Ok (p.1.place ∙ sym q.1.place)
+same_place allowed known sat kind cop w t room (Ok x) (Err v) p q = absurd (omega (arith, p.0 0, q 0, above_zero v))
+same_place allowed known sat kind cop w t room (Err v) (Ok y) p q = absurd (omega (arith, q.0 0, p 0, above_zero v))
+same_place allowed known sat kind cop w t room (Err v) (Err u) p q = ap Err (same_refusal v u (sym (p 0) ∙ q 0))
 
 pub candidate_of_determined :
     (κs : Lfts 1) (a : Dens κs place_kinds.ps) (r r' : (res_t place_kinds.r κs).Denot)

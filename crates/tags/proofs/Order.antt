@@ -14,19 +14,17 @@ use Rattle.paper.specs.Time.{subframe_seconds, is_time, is_start, add_seconds}
 use Rattle.paper.specs.Tag.{family_of, thirty_before, has_candidate}
 use Rattle.paper.specs.Answer.{until_candidate}
 use Rattle.gst.proofs.Told.{sum_of_time}
-use Rattle.lookup.specs.declared.Found.TheVariants.{At as Here}
 use Rattle.lookup.specs.Candidate.{candidate_at}
-use Rattle.lookup.proofs.Candidate.{candidate_shown}
+use Rattle.lookup.proofs.Candidate.{candidate_none, candidate_shown}
 use Rattle.refusals.proofs.Answers.{refused_number, above_zero}
 use Rattle.refusals.specs.Reply.{refusal_number, reply_answer}
 use Rattle.refusals.specs.declared.Refusal.{Refusal}
-use Rattle.refusals.specs.declared.Reply.{Reply}
-use Rattle.refusals.specs.declared.Reply.TheVariants.{Refused as No}
+use Rattle.refusals.specs.declared.Refusal.TheVariants.{NoCandidate}
 use Rattle.paper.proofs.Order.{unless_zero}
 use Rattle.entry.specs.Mack.{mack_number, mack_answer}
 use Rattle.tags.specs.Candidates.{Placed, Sought}
-use Rattle.tags.specs.declared.Candidate.{Candidate}
-use Rattle.tags.specs.declared.Candidate.TheVariants.{At, Refused}
+use Rattle.std.specs.Prelude.{⊤, Option, Some, None, Result, Ok, Err}
+use Rattle.std.specs.Option.{ok_or}
 
 -- what the first four tests say once they are passed
 pub record Mack (sat t : ℕ) (room : List ℕ) : Type 0 where
@@ -59,7 +57,7 @@ module _ (allowed known : Bool) (sat kind cop w t : ℕ) (room : List ℕ) where
   unfolding until_candidate mack_number
   mack_refused k e later = four (is_store room) (is_satellite sat) (is_time t) (is_start t) k _ (refused_number (suc k) _ [] e)
 
-  pub mack_refused_by : (r : Reply) (why : Refusal) → r ≡ No why → reply_answer r ≡ mack_answer sat t room
+  pub mack_refused_by : (r : Result ⊤ Refusal) (why : Refusal) → r ≡ Err why → reply_answer r ≡ mack_answer sat t room
       → (later : ℕ) → until_candidate allowed known sat kind cop w t room later ≡ refusal_number why
   mack_refused_by r why q e later = go (refusal_number why) (above_zero why) (ap reply_answer (sym q) ∙ e)
     where
@@ -84,21 +82,29 @@ module _ (allowed known : Bool) (sat kind cop w t : ℕ) (room : List ℕ) where
   not_known m a k later = until_rest m later ∙ rw (a, k)
 
   -- "7": the sum is refused, by whichever number
-  pub no_time : Mack sat t room → allowed ≡ true → known ≡ true → (x : ℕ) → refused (suc x) ≡ add_seconds w t (neg_ℤ (pos subframe_seconds)) → (later : ℕ)
+  pub no_time : Mack sat t room → allowed ≡ true → known ≡ true
+      → (x : Answer) → x ≡ add_seconds w t (neg_ℤ (pos subframe_seconds)) → eqb (number x) 0 ≡ false → (later : ℕ)
       → until_candidate allowed known sat kind cop w t room later ≡ 7
   unfolding thirty_before
-  no_time m a k x e later =
-      let s : refused (suc x) ≡ thirty_before w t = e ∙ sum_of_time w t (neg_ℤ (pos subframe_seconds)) m.time in
-      until_rest m later ∙ rw (a, k, ← s, eqb-suc-zero x)
+  no_time m a k x e z later =
+      let s : x ≡ thirty_before w t = e ∙ sum_of_time w t (neg_ℤ (pos subframe_seconds)) m.time in
+      until_rest m later ∙ rw (a, k, ← s, z)
 
   -- the last two tests, for the time less 30 s
-  pub placed : (r : Candidate) (w' t' : ℕ) → Mack sat t room → InRange room → allowed ≡ true → known ≡ true
+  pub placed : (r : Result ℕ Refusal) (w' t' : ℕ) → Mack sat t room → InRange room → allowed ≡ true → known ≡ true
       → done (w' ∷ t' ∷ []) ≡ add_seconds w t (neg_ℤ (pos subframe_seconds)) → Sought r (family_of kind) sat cop w' t' room → Placed r allowed known sat kind cop w t room
   unfolding thirty_before
-  placed (At x) w' t' m F a k e q =
+  placed (Ok x) w' t' m F a k e q =
       let s : done (w' ∷ t' ∷ []) ≡ thirty_before w t = e ∙ sum_of_time w t (neg_ℤ (pos subframe_seconds)) m.time in
       let shown = candidate_shown (family_of kind) sat cop w t w' t' room (ap values (sym s)) x F q.1 in
       (λ later. until_rest m later ∙ rw (a, k, ← s, q.0, shown.has), shown)
-  placed (Refused why) w' t' m F a k e q =
+  placed (Err why) w' t' m F a k e q =
       let s : done (w' ∷ t' ∷ []) ≡ thirty_before w t = e ∙ sum_of_time w t (neg_ℤ (pos subframe_seconds)) m.time in
       λ later. until_rest m later ∙ rw (a, k, ← s) (q later w t (ap values (sym s)))
+
+-- 16 and 10: what the lookup found, or 10 in place of nothing
+pub sought :
+    (f : Family) (sat cop w t : ℕ) (room : List ℕ) (a : Option ℕ) →
+    a ≡ candidate_at f sat cop w t room → eqb cop 0 ≡ false → Sought (ok_or a NoCandidate) f sat cop w t room
+sought f sat cop w t room (Some x) e h = (h, sym e)
+sought f sat cop w t room None e h = λ later w' t' q. rw (h, candidate_none f sat cop w' t' w t room q (sym e))

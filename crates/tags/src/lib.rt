@@ -9,44 +9,33 @@ ghost use Rattle.paper.specs.Store.{InRange};
 ghost use Rattle.paper.specs.Tag.{kind_known, cop_allowed, given_agrees};
 ghost use Rattle.tags.specs.Candidates.{Placed, Sought, tagged_answer, accepted_answer, accepted_room};
 
-use gst::{Gst, NewTime, SUBFRAME_SECONDS};
+use gst::{Gst, SUBFRAME_SECONDS};
 use limits::TIMING_KIND;
-use lookup::Found;
-use refusals::{Refusal, Reply};
+use refusals::Refusal;
 use svn::Svn;
 
 // STORE 11.2: the MACK time less 30 s
 const ONE_BEFORE: i32 = 0 - SUBFRAME_SECONDS as i32;
 
-// Where the candidate's record starts in the room, or why there is none.
-#[derive(Clone, Copy)]
-pub enum Candidate {
-    At(usize),
-    Refused(Refusal),
-}
-
-// What a tag came to: how many records took it, or why none did.
-#[derive(Clone, Copy)]
-pub enum Tagged {
-    Taken(u32),
-    Refused(Refusal),
-}
-
-// 16, 10: the MACK's time less 30 s is known here
-fn candidate_before(room: &[u8], sat: u8, timing: bool, cop: u8, week: u16, time: u32) -> Candidate
+// Where the candidate's record starts in the room: 16, 10. The MACK's time less 30 s is known here.
+fn candidate_before(
+    room: &[u8],
+    sat: u8,
+    timing: bool,
+    cop: u8,
+    week: u16,
+    time: u32,
+) -> Result<usize, Refusal>
     requires { InRange room.now }
     ensures { Sought result (family_if timing) sat cop week time room.now }
 {
     if cop == 0 {
-        return Candidate::Refused(Refusal::Dummy);
+        return Err(Refusal::Dummy);
     }
-    match lookup::candidate_at(room, timing, sat, cop, week, time) {
-        Found::At(at) => Candidate::At(at),
-        Found::Nothing => Candidate::Refused(Refusal::NoCandidate),
-    }
+    lookup::candidate_at(room, timing, sat, cop, week, time).ok_or(Refusal::NoCandidate)
 }
 
-// 3, 4, 5, 6, 8, 9, 7, 16, 10: a tag and the candidate test 8 and 9 each in their own way
+// Where the candidate's record starts in the room: 3, 4, 5, 6, 8, 9, 7, 16, 10. A tag and the candidate test 8 and 9 each in their own way.
 #[tactic(auto, unfolding(paper::specs::Tag::family_of))]
 pub fn candidate_of(
     room: &[u8],
@@ -56,35 +45,31 @@ pub fn candidate_of(
     mack: Gst,
     allowed: bool,
     known: bool,
-) -> Candidate
+) -> Result<usize, Refusal>
     ensures { Placed result allowed known svn.0 kind cop mack.wn.0 mack.tow.0 room.now }
 {
-    let reply = entry::mack_entry(room, svn, mack);
-    if let Reply::Refused(why) = reply {
-        return Candidate::Refused(why);
-    }
+    entry::mack_entry(room, svn, mack)?;
     if !allowed {
-        return Candidate::Refused(Refusal::NotAllowed);
+        return Err(Refusal::NotAllowed);
     }
     if !known {
-        return Candidate::Refused(Refusal::UnknownCode);
+        return Err(Refusal::UnknownCode);
     }
-    match mack.add_seconds(ONE_BEFORE) {
-        NewTime::Time(before) => candidate_before(
-            room,
-            svn.0,
-            kind == TIMING_KIND,
-            cop,
-            before.wn.0,
-            before.tow.0,
-        ),
-        NewTime::TowTooLarge => Candidate::Refused(Refusal::TimeArithmetic),
-        NewTime::TimeArithmetic => Candidate::Refused(Refusal::TimeArithmetic),
-    }
+    let Ok(before) = mack.add_seconds(ONE_BEFORE) else {
+        return Err(Refusal::TimeArithmetic);
+    };
+    let timing = kind == TIMING_KIND;
+    candidate_before(room, svn.0, timing, cop, before.wn.0, before.tow.0)
 }
 
 // The candidate of a tag of this kind and COP, to be shown.
-pub fn candidate_shown(room: &[u8], svn: Svn, kind: u8, cop: u8, mack: Gst) -> Candidate
+pub fn candidate_shown(
+    room: &[u8],
+    svn: Svn,
+    kind: u8,
+    cop: u8,
+    mack: Gst,
+) -> Result<usize, Refusal>
     ensures { Placed result (cop_allowed cop) (kind_known kind) svn.0 kind cop mack.wn.0 mack.tow.0 room.now }
 {
     let allowed = limits::cop_allowed(cop);
@@ -104,7 +89,7 @@ fn given_agrees(room: &[u8], at: usize, timing: bool, given: &[u8]) -> bool
     credit::same_bits(given, lookup::data_of(room, at, timing), timing)
 }
 
-// 11, 17, 18, 0: the candidate's record starts at `at`
+// How many records took the tag: 11, 17, 18. The candidate's record starts at `at`.
 pub fn accept(
     room: &mut [u8],
     at: usize,
@@ -114,7 +99,7 @@ pub fn accept(
     status: u8,
     given: &[u8],
     verdict: bool,
-) -> Tagged
+) -> Result<u32, Refusal>
     requires in_range { InRange room.old }
     requires timing_in_bounds { (at + size (family_if timing) ≤ length room.old) × (satellite (part at (size (family_if timing)) room.old) ≡ sat) }
     ensures result_value { tagged_answer result
@@ -125,13 +110,13 @@ pub fn accept(
         room.old }
 {
     if !given_agrees(room, at, timing, given) {
-        return Tagged::Refused(Refusal::OtherData);
+        return Err(Refusal::OtherData);
     }
     if !verdict {
-        return Tagged::Refused(Refusal::VerdictNo);
+        return Err(Refusal::VerdictNo);
     }
     if !limits::status_adds(status) {
-        return Tagged::Refused(Refusal::StatusAddsNothing);
+        return Err(Refusal::StatusAddsNothing);
     }
-    Tagged::Taken(credit::credit_rows(room, timing, sat, given, bits))
+    Ok(credit::credit_rows(room, timing, sat, given, bits))
 }

@@ -1,4 +1,5 @@
 // Text written into lent bytes at a place: letters, decimal numbers and lower-case hex. Each call answers the place behind its text.
+// kept: bytes and place are two parameters, and the next place comes back, since `Put`, in which theorems above speak, has them so
 #![tactic(auto)]
 
 ghost use Rattle.std.specs.Prelude.{◌≡◌, ◌+◌, ◌*◌, ◌≤◌, ◌<◌, length};
@@ -9,12 +10,11 @@ pub fn put_bytes(out: &mut [u8], at: usize, text: &[u8]) -> usize
     requires { at + length text.now ≤ length out.old }
     ensures { Put out.old at text.now out.new result }
 {
-    let mut i = 0;
-    while i < text.len() {
-        out[at + i] = text[i];
-        i += 1;
+    // kept: byte by byte, since `copy_from_slice` over a length that is not known asks for memcpy, and the archive may not
+    for (i, &byte) in text.iter().enumerate() {
+        out[at + i] = byte;
     }
-    at + i
+    at + text.len()
 }
 
 // The digits of the longest number.
@@ -50,13 +50,10 @@ pub fn put_hex(out: &mut [u8], at: usize, bytes: &[u8]) -> usize
     ensures { Put out.old at (hex_of bytes.now) out.new result }
 {
     let mut to = at;
-    let mut i = 0;
-    while i < bytes.len() {
-        let byte = bytes[i];
+    for &byte in bytes {
         out[to] = hex_digit(byte / 16);
         out[to + 1] = hex_digit(byte % 16);
         to += 2;
-        i += 1;
     }
     to
 }
@@ -67,11 +64,5 @@ pub fn put_hex32(out: &mut [u8], at: usize, x: u32) -> usize
     requires { at + 8 ≤ length out.old }
     ensures { Put out.old at (hex32 x) out.new result }
 {
-    let bytes = [
-        (x / 16777216) as u8,
-        (x / 65536 % 256) as u8,
-        (x / 256 % 256) as u8,
-        (x % 256) as u8,
-    ];
-    put_hex(out, at, &bytes)
+    put_hex(out, at, &x.to_be_bytes())
 }

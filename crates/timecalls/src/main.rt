@@ -4,10 +4,11 @@
 
 ghost use Rattle.std.specs.Prelude.{◌+◌, ◌≤◌, length};
 
-use gst::{Apart, Gst, NewTime, Start, Tow, Wn};
+use gst::Gst;
+use refusals::Refusal;
 use std::io;
 use std::io::Read;
-use svn::{Satellite, Svn};
+use svn::Svn;
 
 // The bytes of a call: which, week 2, time 4, and a second time or a number in the last four.
 const CALL: usize = 13;
@@ -23,66 +24,57 @@ fn text(rt: HostRuntime, letters: &[u8]) {
     heard(rt, rt.write_all(letters));
 }
 
-fn number(rt: HostRuntime, n: u64) {
-    heard(rt, print!(rt; "{n}"));
+// 0 and what is handed back
+fn value(rt: HostRuntime, value: i32) {
+    heard(rt, println!(rt; "0 {value}"));
 }
 
-fn signed(rt: HostRuntime, n: i32) {
-    if n < 0 {
-        text(rt, b"-");
-    }
-    number(rt, signs::size(n) as u64);
+fn refused(rt: HostRuntime, why: Refusal) {
+    let number = u8::from(why);
+    heard(rt, println!(rt; "{number}"));
 }
 
-fn new_time(rt: HostRuntime, answer: NewTime) {
+// kept a function: a Display of Gst would stand in its crate, and each program writes a time in a form of its own
+fn new_time(rt: HostRuntime, answer: Result<Gst, Refusal>) {
     match answer {
-        NewTime::Time(gst) => {
+        Ok(gst) => {
+            let week = gst.wn.0;
+            let time = gst.tow.0;
+            heard(rt, println!(rt; "0 {week} {time}"));
+        }
+        Err(why) => refused(rt, why),
+    }
+}
+
+fn is_start(rt: HostRuntime, answer: Result<bool, Refusal>) {
+    match answer {
+        Ok(start) => value(rt, i32::from(start)),
+        Err(why) => refused(rt, why),
+    }
+}
+
+fn apart(rt: HostRuntime, answer: Result<i32, Refusal>) {
+    match answer {
+        Ok(subframes) => value(rt, subframes),
+        Err(why) => refused(rt, why),
+    }
+}
+
+fn satellite(rt: HostRuntime, answer: Result<Svn, Refusal>) {
+    match answer {
+        Ok(svn) => {
             text(rt, b"0 ");
-            number(rt, gst.wn.0 as u64);
-            text(rt, b" ");
-            number(rt, gst.tow.0 as u64);
+            text(rt, &svn.letters());
             text(rt, b"\n");
         }
-        NewTime::TowTooLarge => text(rt, b"5\n"),
-        NewTime::TimeArithmetic => text(rt, b"7\n"),
-    }
-}
-
-fn is_start(rt: HostRuntime, answer: Start) {
-    match answer {
-        Start::Yes => text(rt, b"0 1\n"),
-        Start::No => text(rt, b"0 0\n"),
-        Start::TowTooLarge => text(rt, b"5\n"),
-    }
-}
-
-fn apart(rt: HostRuntime, answer: Apart) {
-    match answer {
-        Apart::Subframes(n) => {
-            text(rt, b"0 ");
-            signed(rt, n);
-            text(rt, b"\n");
-        }
-        Apart::TowTooLarge => text(rt, b"5\n"),
-    }
-}
-
-fn satellite(rt: HostRuntime, answer: Satellite) {
-    match answer {
-        Satellite::Of(svn) => {
-            let letters = svn.letters();
-            text(rt, b"0 ");
-            text(rt, &letters);
-            text(rt, b"\n");
-        }
-        Satellite::NoSatellite => text(rt, b"4\n"),
+        Err(why) => refused(rt, why),
     }
 }
 
 // A number of two bytes is a satellite's only if the first is 0.
-fn one_byte(high: u8, low: u8) -> Satellite {
+fn one_byte(high: u8, low: u8) -> Result<Svn, Refusal> {
     if high != 0 {
-        return Satellite::NoSatellite;
+        return Err(Refusal::NoSatellite);
     }
     Svn::try_from(low)
 }
@@ -90,10 +82,7 @@ fn one_byte(high: u8, low: u8) -> Satellite {
 fn time_at(call: &[u8], at: usize) -> Gst
     requires { at + 6 ≤ length call.now }
 {
-    Gst {
-        wn: Wn(numbers::read16(call, at)),
-        tow: Tow(numbers::read32(call, at + 2)),
-    }
+    Gst::new(numbers::read16(call, at), numbers::read32(call, at + 2))
 }
 
 fn answer(rt: HostRuntime, call: &[u8])
@@ -129,12 +118,11 @@ fn one_call(rt: HostRuntime) -> bool {
     true
 }
 
+// The calls until the input ends, or 2^64 - 1 of them.
 fn main(rt: HostRuntime) {
-    let mut left: u64 = 18446744073709551615;
-    while left > 0 {
+    for _ in 0..u64::MAX {
         if !one_call(rt) {
             return;
         }
-        left -= 1;
     }
 }

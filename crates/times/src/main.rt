@@ -2,13 +2,10 @@
 // A line says what is asked, and then the answer: its value, or the number of the refusal.
 #![tactic(auto)]
 
-use gst::{Apart, Gst, NewTime, Start, Tow, Wn};
+use gst::{Chained, Gst};
+use refusals::Refusal;
 use std::io;
-use svn::{Satellite, Svn};
-
-const LEAST: i32 = -2147483648;
-
-const MOST: i32 = 2147483647;
+use svn::Svn;
 
 // A line on standard error where standard output could not be written.
 fn heard(rt: HostRuntime, written: io::Result<()>) {
@@ -21,52 +18,32 @@ fn text(rt: HostRuntime, letters: &[u8]) {
     heard(rt, rt.write_all(letters));
 }
 
-fn number(rt: HostRuntime, n: u64) {
-    heard(rt, print!(rt; "{n}"));
-}
-
+// kept a function: a Display of Gst would stand in its crate, and each program writes a time in a form of its own
 fn time(rt: HostRuntime, gst: Gst) {
     let week = gst.wn.0;
     let time = gst.tow.0;
-    text(rt, b"(");
-    number(rt, week as u64);
-    text(rt, b", ");
-    number(rt, time as u64);
-    text(rt, b")");
+    heard(rt, print!(rt; "({week}, {time})"));
 }
 
 fn change(rt: HostRuntime, n: i32) {
-    if n < 0 {
-        text(rt, b" - ");
-    } else {
-        text(rt, b" + ");
-    }
-    number(rt, signs::size(n) as u64);
+    let sign = if n < 0 { '-' } else { '+' };
+    let size = n.unsigned_abs();
+    heard(rt, print!(rt; " {sign} {size}"));
 }
 
-fn signed(rt: HostRuntime, n: i32) {
-    if n < 0 {
-        text(rt, b"-");
-    }
-    number(rt, signs::size(n) as u64);
+fn refused(rt: HostRuntime, why: Refusal) {
+    let number = u8::from(why);
+    heard(rt, println!(rt; ": {number}"));
 }
 
-fn new_time(rt: HostRuntime, answer: NewTime) {
+fn new_time(rt: HostRuntime, answer: Result<Gst, Refusal>) {
     match answer {
-        NewTime::Time(gst) => {
+        Ok(gst) => {
             text(rt, b" = ");
             time(rt, gst);
+            text(rt, b"\n");
         }
-        NewTime::TowTooLarge => text(rt, b": 5"),
-        NewTime::TimeArithmetic => text(rt, b": 7"),
-    }
-    text(rt, b"\n");
-}
-
-fn at(week: u16, time: u32) -> Gst {
-    Gst {
-        wn: Wn(week),
-        tow: Tow(time),
+        Err(why) => refused(rt, why),
     }
 }
 
@@ -94,9 +71,9 @@ fn start(rt: HostRuntime, gst: Gst) {
     text(rt, b"start ");
     time(rt, gst);
     match gst.is_subframe() {
-        Start::Yes => text(rt, b" yes\n"),
-        Start::No => text(rt, b" no\n"),
-        Start::TowTooLarge => text(rt, b": 5\n"),
+        Ok(true) => text(rt, b" yes\n"),
+        Ok(false) => text(rt, b" no\n"),
+        Err(why) => refused(rt, why),
     }
 }
 
@@ -105,24 +82,19 @@ fn difference(rt: HostRuntime, gst: Gst, other: Gst) {
     text(rt, b" against ");
     time(rt, other);
     match gst.subframes_difference(other) {
-        Apart::Subframes(n) => {
-            text(rt, b": ");
-            signed(rt, n);
-            text(rt, b" subframes\n");
-        }
-        Apart::TowTooLarge => text(rt, b": 5\n"),
+        Ok(n) => heard(rt, println!(rt; ": {n} subframes")),
+        Err(why) => refused(rt, why),
     }
 }
 
 fn satellite(rt: HostRuntime, n: u8) {
-    text(rt, b"satellite ");
-    number(rt, n as u64);
+    heard(rt, print!(rt; "satellite {n}"));
     match Svn::try_from(n) {
-        Satellite::Of(svn) => {
+        Ok(svn) => {
             text(rt, b": ");
             letters(rt, svn);
         }
-        Satellite::NoSatellite => text(rt, b": 4\n"),
+        Err(why) => refused(rt, why),
     }
 }
 
@@ -134,7 +106,7 @@ fn letters(rt: HostRuntime, svn: Svn) {
 
 // gst.rs and svn.rs, in the order of their comments.
 fn rust(rt: HostRuntime) {
-    let gst = at(1177, 175767);
+    let gst = Gst::new(1177, 175767);
     time(rt, gst);
     text(rt, b"\n");
     seconds(rt, gst, 2);
@@ -145,51 +117,51 @@ fn rust(rt: HostRuntime) {
     new_time(rt, gst.add_subframes(3).add_subframes(-3));
     subframe(rt, gst);
     start(rt, gst);
-    start(rt, at(1177, 175740));
+    start(rt, Gst::new(1177, 175740));
     satellite(rt, 24);
 }
 
 // 18.1 to 18.5.
 fn paper(rt: HostRuntime) {
-    seconds(rt, at(1177, 175767), 2);
+    seconds(rt, Gst::new(1177, 175767), 2);
     text(rt, b"subframe of (1177, 175767) + 2 s");
-    new_time(rt, at(1177, 175767).add_seconds(2).gst_subframe());
-    seconds(rt, at(0, 0), -30);
-    seconds(rt, at(1, 0), -30);
-    seconds(rt, at(65535, 604799), 1);
-    seconds(rt, at(5, 0), -604799);
-    seconds(rt, at(5, 0), -604800);
-    difference(rt, at(1, 0), at(0, 604799));
+    new_time(rt, Gst::new(1177, 175767).add_seconds(2).gst_subframe());
+    seconds(rt, Gst::new(0, 0), -30);
+    seconds(rt, Gst::new(1, 0), -30);
+    seconds(rt, Gst::new(65535, 604799), 1);
+    seconds(rt, Gst::new(5, 0), -604799);
+    seconds(rt, Gst::new(5, 0), -604800);
+    difference(rt, Gst::new(1, 0), Gst::new(0, 604799));
 }
 
 // The ends of i32, of the weeks and of the times of week.
 fn edges(rt: HostRuntime) {
-    seconds(rt, at(0, 0), MOST);
-    seconds(rt, at(61985, 161152), MOST);
-    seconds(rt, at(61985, 161153), MOST);
-    seconds(rt, at(65535, 604799), LEAST);
-    seconds(rt, at(65535, 604800), LEAST);
-    subframes(rt, at(0, 7), 71582788);
-    subframes(rt, at(0, 7), 71582789);
-    subframes(rt, at(65535, 0), -20159);
-    subframes(rt, at(65535, 0), -20160);
-    subframes(rt, at(65535, 0), LEAST);
-    subframes(rt, at(0, 604800), MOST);
-    subframe(rt, at(65535, 604799));
-    subframe(rt, at(0, 604800));
-    start(rt, at(0, 604770));
-    start(rt, at(0, 604800));
+    seconds(rt, Gst::new(0, 0), i32::MAX);
+    seconds(rt, Gst::new(61985, 161152), i32::MAX);
+    seconds(rt, Gst::new(61985, 161153), i32::MAX);
+    seconds(rt, Gst::new(65535, 604799), i32::MIN);
+    seconds(rt, Gst::new(65535, 604800), i32::MIN);
+    subframes(rt, Gst::new(0, 7), 71582788);
+    subframes(rt, Gst::new(0, 7), 71582789);
+    subframes(rt, Gst::new(65535, 0), -20159);
+    subframes(rt, Gst::new(65535, 0), -20160);
+    subframes(rt, Gst::new(65535, 0), i32::MIN);
+    subframes(rt, Gst::new(0, 604800), i32::MAX);
+    subframe(rt, Gst::new(65535, 604799));
+    subframe(rt, Gst::new(0, 604800));
+    start(rt, Gst::new(0, 604770));
+    start(rt, Gst::new(0, 604800));
 }
 
 // The quotient of the times of week is rounded toward zero.
 fn differences(rt: HostRuntime) {
-    difference(rt, at(65535, 604799), at(0, 0));
-    difference(rt, at(0, 0), at(65535, 604799));
-    difference(rt, at(7, 0), at(7, 59));
-    difference(rt, at(7, 59), at(7, 0));
-    difference(rt, at(0, 604799), at(1, 0));
-    difference(rt, at(0, 604800), at(0, 0));
-    difference(rt, at(0, 0), at(0, 604800));
+    difference(rt, Gst::new(65535, 604799), Gst::new(0, 0));
+    difference(rt, Gst::new(0, 0), Gst::new(65535, 604799));
+    difference(rt, Gst::new(7, 0), Gst::new(7, 59));
+    difference(rt, Gst::new(7, 59), Gst::new(7, 0));
+    difference(rt, Gst::new(0, 604799), Gst::new(1, 0));
+    difference(rt, Gst::new(0, 604800), Gst::new(0, 0));
+    difference(rt, Gst::new(0, 0), Gst::new(0, 604800));
 }
 
 // A refusal goes through the chain, and what is no satellite is written by the same rule.
@@ -197,13 +169,13 @@ fn rest(rt: HostRuntime) {
     text(rt, b"subframe of (0, 604800), - 2147483648 s + 1 subframes");
     new_time(
         rt,
-        at(0, 604800)
+        Gst::new(0, 604800)
             .gst_subframe()
-            .add_seconds(LEAST)
+            .add_seconds(i32::MIN)
             .add_subframes(1),
     );
     text(rt, b"(0, 0) - 30 s + 30 s");
-    new_time(rt, at(0, 0).add_seconds(-30).add_seconds(30));
+    new_time(rt, Gst::new(0, 0).add_seconds(-30).add_seconds(30));
     satellite(rt, 0);
     satellite(rt, 1);
     satellite(rt, 36);

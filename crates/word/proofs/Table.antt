@@ -1,12 +1,13 @@
 -- The types and bands that the table of words leaves out.
-use mathlib.Core.Path.{◌≡◌, sym}
+use mathlib.Core.List.{List}
+use mathlib.Core.Path.{◌≡◌, refl, sym}
 use mathlib.Core.Logic.{◌≢◌}
 use mathlib.Core.Bool.{and-false}
 use Prim.Native.Nat.{ℕ}
 use lib.Dec.{eqb}
 use borrow.Author.Tests.{ne_eqb}
 use Rattle.paper.specs.Record.{CED, Timing}
-use Rattle.paper.specs.Word.{nothing, table, owned_in, owned}
+use Rattle.paper.specs.Word.{nothing, table, owned_in, owned, fed_record}
 
 pub no_ced : (k band : ℕ) → k ≢ 1 → k ≢ 2 → k ≢ 3 → k ≢ 4 → k ≢ 5 → nothing ≡ owned CED k band
 unfolding table owned_in
@@ -27,3 +28,8 @@ no_timing k a b = rw (ne_eqb 6 k (λ h. a (sym h)), ne_eqb 10 k (λ h. b (sym h)
 pub no_timing_on : (k band : ℕ) → band ≢ 0 → nothing ≡ owned Timing k band
 unfolding table owned_in
 no_timing_on k band a = rw (ne_eqb band 0 a, and-false (eqb 6 k), and-false (eqb 10 k))
+
+-- a CED record takes a word alike on either band
+pub ced_on_any_band : (sat band other : ℕ) (word rec : List ℕ) → fed_record CED sat band word rec ≡ fed_record CED sat other word rec
+unfolding fed_record table owned_in
+ced_on_any_band sat band other word rec = refl

@@ -1,24 +1,21 @@
 // What a word does to one record (STORE 10.6 to 10.8).
 #![tactic(auto)]
 
-ghost use Rattle.std.specs.Prelude.{◌≡◌, cond, ℕ, ◌-◌, ◌≤◌, ◌<◌, length, set};
-ghost use Rattle.paper.specs.Record.{CED, Timing as TIMING, family_if, satellite_at, ages_at, size, with_count};
+ghost use Rattle.std.specs.Prelude.{◌≡◌, cond, ℕ, ◌+◌, ◌-◌, ◌≤◌, ◌<◌, length, set};
+ghost use Rattle.paper.specs.Record.{Family, CED, Timing as TIMING, family_if, satellite_at, ages, ages_at, size, with_count};
 ghost use Rattle.paper.specs.Word.{word_bytes, type_of, owns, owned, InBounds, takeover, written, fed_record};
-ghost use Rattle.word.specs.Part.{owned_of};
+ghost use Rattle.word.specs.Part.{share_of, owned_of};
 ghost use Rattle.word.specs.Holder.{held_another};
 
 use records::{AGES_AT, COUNT_AT, Ced, OLDEST, SATELLITE_AT, Timing};
 
 // STORE 5.4, the share that a word owns: so many bits to a bit of the record from a bit of the word, and an age.
-#[derive(Drop)]
-enum Owned {
-    Nothing,
-    Owns {
-        to: usize,
-        from: usize,
-        size: usize,
-        age: usize,
-    },
+#[derive(Clone, Copy)]
+struct Share {
+    to: usize,
+    from: usize,
+    size: usize,
+    age: usize,
 }
 
 fn type_of(word: &[u8]) -> u8
@@ -29,21 +26,21 @@ fn type_of(word: &[u8]) -> u8
 }
 
 // A line of the table, by its record bits and the first of its word bits.
-fn line(to: usize, end: usize, from: usize, age: usize) -> Owned
+fn line(to: usize, end: usize, from: usize, age: usize) -> Option<Share>
     requires { to ≤ end }
-    ensures { result ≡ Owned.Owns to from (end - to) age }
+    ensures { owned_of result ≡ owns to from (end - to) age }
 {
-    Owned::Owns {
+    Some(Share {
         to,
         from,
         size: end - to,
         age,
-    }
+    })
 }
 
 // The table's lines for CED, on either band.
 #[tactic(auto, unfolding(paper::specs::Word::owned_in, paper::specs::Word::table))]
-fn owned_ced(kind: u8) -> Owned
+fn owned_ced(kind: u8) -> Option<Share>
     ensures { (band : ℕ) → owned_of result ≡ owned CED kind band }
 {
     match kind {
@@ -52,22 +49,32 @@ fn owned_ced(kind: u8) -> Owned
         3 => line(240, 362, 6, 2),
         4 => line(362, 482, 6, 3),
         5 => line(482, Ced::BITS, 6, 4),
-        _ => Owned::Nothing,
+        _ => None,
     }
 }
 
 // The table's lines for timing, on E1B alone.
 #[tactic(auto, unfolding(paper::specs::Word::owned_in, paper::specs::Word::table))]
-fn owned_timing(kind: u8, band: u8) -> Owned
+fn owned_timing(kind: u8, band: u8) -> Option<Share>
     ensures { owned_of result ≡ owned TIMING kind band }
 {
     if band != 0 {
-        return Owned::Nothing;
+        return None;
     }
     match kind {
         6 => line(0, 99, 6, 0),
         10 => line(99, Timing::BITS, 86, 1),
-        _ => Owned::Nothing,
+        _ => None,
+    }
+}
+
+fn owned(kind: u8, timing: bool, band: u8) -> Option<Share>
+    ensures { owned_of result ≡ owned (family_if timing) kind band }
+{
+    if timing {
+        owned_timing(kind, band)
+    } else {
+        owned_ced(kind)
     }
 }
 
@@ -104,83 +111,66 @@ fn take(bytes: &mut [u8], sat: u8) -> bool
     another
 }
 
-fn take_over_ced(bytes: &mut [u8], sat: u8)
-    requires { length bytes.old ≡ size CED }
-    ensures { bytes.new ≡ takeover CED sat bytes.old }
+// The record with N ages taken by a satellite: they are the greatest where it had another.
+fn take_over<const N: usize>(bytes: &mut [u8], sat: u8)
+    requires { ages_at + N ≤ length bytes.old }
+    ensures { (f : Family) → ages f ≡ N → bytes.new ≡ takeover f sat bytes.old }
 {
     if !take(bytes, sat) {
         return;
     }
-    Ced::put_ages(bytes, [OLDEST; Ced::WORDS]);
-}
-
-fn take_over_timing(bytes: &mut [u8], sat: u8)
-    requires { length bytes.old ≡ size TIMING }
-    ensures { bytes.new ≡ takeover TIMING sat bytes.old }
-{
-    if !take(bytes, sat) {
-        return;
-    }
-    Timing::put_ages(bytes, [OLDEST; Timing::WORDS]);
+    records::put_ages(bytes, [OLDEST; N]);
 }
 
 // STORE 10.7: the record's data is lent to the move of bits.
-fn write_bits(
-    bytes: &mut [u8],
-    timing: bool,
-    word: &[u8],
-    to: usize,
-    from: usize,
-    n: usize,
-    age: usize,
-)
+fn write_bits(bytes: &mut [u8], timing: bool, word: &[u8], share: Share)
     requires bytes_len { (length bytes.old ≡ size (family_if timing)) × (length word.now ≡ word_bytes) }
-    requires in_bounds { InBounds (family_if timing) (owns to from n age) }
-    ensures { bytes.new
-        ≡ written (family_if timing) (owns to from n age) word.now bytes.old }
+    requires in_bounds { InBounds (family_if timing) (share_of share) }
+    ensures { bytes.new ≡ written (family_if timing) (share_of share) word.now bytes.old }
 {
     let start = records::data_at(timing);
     let end = bytes.len();
-    let changed = bits::move_bits(&mut bytes[start..end], to, word, from, n);
-    bytes[AGES_AT + age] = 0;
+    let changed = bits::move_bits(
+        &mut bytes[start..end],
+        share.to,
+        word,
+        share.from,
+        share.size,
+    );
+    bytes[AGES_AT + share.age] = 0;
     clear_count_if(bytes, changed);
 }
 
 #[tactic(auto, unfolding(paper::specs::Word::written))]
-fn write_owned(bytes: &mut [u8], timing: bool, word: &[u8], part: Owned)
+fn write_owned(bytes: &mut [u8], timing: bool, word: &[u8], part: Option<Share>)
     requires bytes_len { (length bytes.old ≡ size (family_if timing)) × (length word.now ≡ word_bytes) }
     requires in_bounds { InBounds (family_if timing) (owned_of part) }
     ensures { bytes.new ≡ written (family_if timing) (owned_of part) word.now bytes.old }
 {
-    match part {
-        Owned::Nothing => {}
-        Owned::Owns {
-            to,
-            from,
-            size,
-            age,
-        } => write_bits(bytes, timing, word, to, from, size, age),
+    if let Some(share) = part {
+        write_bits(bytes, timing, word, share);
     }
 }
 
-// What a word of the satellite does to the CED record that it goes to, on either band.
-#[tactic(auto, unfolding(paper::specs::Word::fed_record))]
-pub fn feed_ced(bytes: &mut [u8], sat: u8, word: &[u8])
-    requires { (length bytes.old ≡ size CED) × (length word.now ≡ word_bytes) }
-    ensures { (band : ℕ) → bytes.new ≡ fed_record CED sat band word.now bytes.old }
+// The record of a family taken by a satellite.
+fn take_over_family(bytes: &mut [u8], timing: bool, sat: u8)
+    requires { length bytes.old ≡ size (family_if timing) }
+    ensures { bytes.new ≡ takeover (family_if timing) sat bytes.old }
 {
-    take_over_ced(bytes, sat);
-    let part = owned_ced(type_of(word));
-    write_owned(bytes, false, word, part);
+    if timing {
+        take_over::<{ Timing::WORDS }>(bytes, sat);
+    } else {
+        take_over::<{ Ced::WORDS }>(bytes, sat);
+    }
 }
 
-// What a word of the satellite does to the timing record that it goes to.
+// What a word of the satellite does to the record of a family that it goes to.
 #[tactic(auto, unfolding(paper::specs::Word::fed_record))]
-pub fn feed_timing(bytes: &mut [u8], sat: u8, band: u8, word: &[u8])
-    requires { (length bytes.old ≡ size TIMING) × (length word.now ≡ word_bytes) }
-    ensures { bytes.new ≡ fed_record TIMING sat band word.now bytes.old }
+pub fn feed_record(bytes: &mut [u8], timing: bool, sat: u8, band: u8, word: &[u8])
+    requires { (length bytes.old ≡ size (family_if timing)) × (length word.now ≡ word_bytes) }
+    ensures { bytes.new ≡ fed_record (family_if timing) sat band word.now bytes.old }
 {
-    take_over_timing(bytes, sat);
-    let part = owned_timing(type_of(word), band);
-    write_owned(bytes, true, word, part);
+    take_over_family(bytes, timing, sat);
+    let part = owned(type_of(word), timing, band);
+    write_owned(bytes, timing, word, part);
 }

@@ -31,8 +31,8 @@ pub age_unknown-requires : goal.age_unknown-requires
 age_unknown-requires c =
     let a-store : is_store c.args.room.now ≡ true = sym c.is_store.ensures ∙ c.if-not-is_store.false in
     let inside : let args = c.args in
-    (c.in-At.row + head_size ≤ length args.room.now) × (c.in-At.at + size (family_if args.timing) ≤ length args.room.now) = let args = c.args in
-    told_inside (family_if args.timing) args.svn.0 args.room.now _ _ (sym c.answering_at.ensures ∙ c.in-At.is)
+    (c.in-Some.place.row + head_size ≤ length args.room.now) × (c.in-Some.place.at + size (family_if args.timing) ≤ length args.room.now) = let args = c.args in
+    told_inside (family_if args.timing) args.svn.0 args.room.now _ _ (sym c.answering_at.ensures ∙ c.in-Some.is)
     (store_facts _ (a-store)) in
     ((store_facts _ (a-store)).long, (inside).1)
 
@@ -41,15 +41,15 @@ returns-then-age_unknown c =
     let a-store : is_store c.args.room.now ≡ true = sym c.is_store.ensures ∙ c.if-not-is_store.false in
     let a-satellite : is_satellite c.args.svn.0 ≡ true = sym c.is_satellite.ensures ∙ c.if-not-is_satellite.false in
     let args = c.args in
-    ask_unknown (family_if args.timing) args.svn.0 args.room.now _ _ (sym c.answering_at.ensures ∙ c.in-At.is)
+    ask_unknown (family_if args.timing) args.svn.0 args.room.now _ _ (sym c.answering_at.ensures ∙ c.in-Some.is)
     (a-store) (a-satellite) (sym c.if-age_unknown.true ∙ c.age_unknown.ensures)
 
 pub time_before-requires : goal.time_before-requires
 time_before-requires c =
     let a-store : is_store c.args.room.now ≡ true = sym c.is_store.ensures ∙ c.if-not-is_store.false in
     let inside : let args = c.args in
-    (c.in-At.row + head_size ≤ length args.room.now) × (c.in-At.at + size (family_if args.timing) ≤ length args.room.now) = let args = c.args in
-    told_inside (family_if args.timing) args.svn.0 args.room.now _ _ (sym c.answering_at.ensures ∙ c.in-At.is)
+    (c.in-Some.place.row + head_size ≤ length args.room.now) × (c.in-Some.place.at + size (family_if args.timing) ≤ length args.room.now) = let args = c.args in
+    told_inside (family_if args.timing) args.svn.0 args.room.now _ _ (sym c.answering_at.ensures ∙ c.in-Some.is)
     (store_facts _ (a-store)) in
     inside
 
@@ -59,25 +59,25 @@ returns-in_default-time_before c =
     let a-satellite : is_satellite c.args.svn.0 ≡ true = sym c.is_satellite.ensures ∙ c.if-not-is_satellite.false in
     let time = c.time_before in
     let args = c.args in
-    ask_late (family_if args.timing) args.svn.0 args.room.now _ _ (sym c.answering_at.ensures ∙ c.in-At.is)
+    ask_late (family_if args.timing) args.svn.0 args.room.now _ _ (sym c.answering_at.ensures ∙ c.in-Some.is)
     (a-store) (a-satellite) (sym c.if-age_unknown.false ∙ c.age_unknown.ensures)
-    _ time.ensures (refuses_time time.result c.in_default-time_before.not-Time)
+    _ time.ensures (refuses_time time.result c.in_default-time_before.not-Ok)
 
 pub overflow_add-at : goal.overflow_add-at
 overflow_add-at c =
     let a-store : is_store c.args.room.now ≡ true = sym c.is_store.ensures ∙ c.if-not-is_store.false in
     let inside : let args = c.args in
-    (c.in-At.row + head_size ≤ length args.room.now) × (c.in-At.at + size (family_if args.timing) ≤ length args.room.now) = let args = c.args in
-    told_inside (family_if args.timing) args.svn.0 args.room.now _ _ (sym c.answering_at.ensures ∙ c.in-At.is)
+    (c.in-Some.place.row + head_size ≤ length args.room.now) × (c.in-Some.place.at + size (family_if args.timing) ≤ length args.room.now) = let args = c.args in
+    told_inside (family_if args.timing) args.svn.0 args.room.now _ _ (sym c.answering_at.ensures ∙ c.in-Some.is)
     (store_facts _ (a-store)) in
     omega (arith, (inside).1)
 
-pub read16-requires : goal.read16-requires
-read16-requires c =
+pub read16-authbits-requires : goal.read16-authbits-requires
+read16-authbits-requires c =
     let a-store : is_store c.args.room.now ≡ true = sym c.is_store.ensures ∙ c.if-not-is_store.false in
     let inside : let args = c.args in
-    (c.in-At.row + head_size ≤ length args.room.now) × (c.in-At.at + size (family_if args.timing) ≤ length args.room.now) = let args = c.args in
-    told_inside (family_if args.timing) args.svn.0 args.room.now _ _ (sym c.answering_at.ensures ∙ c.in-At.is)
+    (c.in-Some.place.row + head_size ≤ length args.room.now) × (c.in-Some.place.at + size (family_if args.timing) ≤ length args.room.now) = let args = c.args in
+    told_inside (family_if args.timing) args.svn.0 args.room.now _ _ (sym c.answering_at.ensures ∙ c.in-Some.is)
     (store_facts _ (a-store)) in
     omega (arith, (inside).1)
 
@@ -86,7 +86,7 @@ returns c =
     let a-store : is_store c.args.room.now ≡ true = sym c.is_store.ensures ∙ c.if-not-is_store.false in
     let a-satellite : is_satellite c.args.svn.0 ≡ true = sym c.is_satellite.ensures ∙ c.if-not-is_satellite.false in
     let args = c.args in
-    ask_told (family_if args.timing) args.svn.0 args.room.now _ _ (sym c.answering_at.ensures ∙ c.in-At.is)
+    ask_told (family_if args.timing) args.svn.0 args.room.now _ _ (sym c.answering_at.ensures ∙ c.in-Some.is)
     (a-store) (a-satellite) (sym c.if-age_unknown.false ∙ c.age_unknown.ensures)
-    _ _ _ c.read16.ensures
-    (sym (ap time_answer c.in-Time.is) ∙ c.time_before.ensures)
+    _ _ _ c.read16-authbits.ensures
+    (sym (ap time_answer c.in-Ok.is) ∙ c.time_before.ensures)

@@ -7,8 +7,8 @@ pub returns : goal.returns
 returns c =
     let a = c.args in
     let p = c.put_byte in
-    let high = c.as_u32-a.ensures.0 in
-    let low = c.as_u32-b.ensures.0 in
+    let high = c.from-a.ensures in
+    let low = c.from-b.ensures in
     whole_put a.d.now a.i a.w.now (8 * a.j + a.r) c.requires.0 (λ i. (c.slice_known-1.given i).fits)
-    (λ i. (c.shared_slice_known-1.given i).fits) _ p.new.d a.hit p.result
+    (λ i. (c.type_inv.w i).fits) _ p.new.d a.hit p.result
     (rw (high, low) (whole_field a.w.now a.j a.r c.requires.2)) p.ensures.0 p.ensures.1

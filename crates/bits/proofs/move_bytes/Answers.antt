@@ -1,5 +1,4 @@
 -- `move_bytes` is right: after n turns the list and the flag are those of a move of 8 n bits, since moves add up.
-use mathlib.Core.Path.{◌∙◌}
 use Prim.Native.Nat.{◌+◌, ◌*◌, ◌/◌, ◌%◌}
 use native.Mathlib.Omega.{arith}
 use Rattle.paper.proofs.Bits.{move_on}
@@ -13,5 +12,5 @@ loop-n-preserved c =
     let on =
     move_on a.d.now (8 * a.i) a.w.now a.from (8 * l.n) 8 (8 * (l.n + 1)) (8 * (a.i + l.n)) (8 * (a.from / 8 + l.n) + a.from % 8)
     l.d m.new.d a.before l.hit m.result (omega arith) (omega arith) (omega arith)
-    l.invariant.2 l.invariant.3 m.ensures.0 m.ensures.1 in
-    (omega arith, m.auto.d ∙ l.invariant.1, on.0, on.1)
+    l.invariant.0 l.invariant.1 m.ensures.0 m.ensures.1 in
+    (on.0, on.1)

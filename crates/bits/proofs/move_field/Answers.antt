@@ -9,5 +9,5 @@ returns c =
     let y = c.joined-y in
     let p = c.put_byte in
     one_put a.d.now a.to a.w.now a.from a.k c.requires.0 c.requires.1 c.requires.2
-    (λ i. (c.slice_known-1.given i).fits) (λ i. (c.shared_slice_known-1.given i).fits) y.result p.new.d a.hit p.result
-    (y.ensures ∙ rw (c.as_u32.ensures.0, c.field-v.ensures)) p.ensures.0 p.ensures.1
+    (λ i. (c.slice_known-1.given i).fits) (λ i. (c.type_inv.w i).fits) y.result p.new.d a.hit p.result
+    (y.ensures ∙ rw (c.from.ensures, c.field-v.ensures)) p.ensures.0 p.ensures.1

@@ -3,10 +3,10 @@ use Rattle.choice.proofs.Oldest.{older_before, none_before}
 use Rattle.choice.proofs.last_oldest.Goals as goal
 
 pub loop-older-smaller : goal.loop-older-smaller
-loop-older-smaller c = (older_before _ _ _ _ _ c.loop-older.invariant c.last_older.ensures _ c.in-At.is).1
+loop-older-smaller c = (older_before _ _ _ _ _ c.loop-older.invariant c.last_older.ensures _ c.in-Some.is).1
 
 pub loop-older-preserved : goal.loop-older-preserved
-loop-older-preserved c = (older_before _ _ _ _ _ c.loop-older.invariant c.last_older.ensures _ c.in-At.is).0
+loop-older-preserved c = (older_before _ _ _ _ _ c.loop-older.invariant c.last_older.ensures _ c.in-Some.is).0
 
 pub returns : goal.returns
 returns c = none_before _ _ _ _ _ c.loop-older.invariant c.last_older.ensures c.in_default.is

@@ -1,11 +1,6 @@
 -- `feed`: what is taken lies within the part, and the lines within the output.
-use Rattle.std.proofs.Common.{◌≡◌, ◌≤◌, length}
+use Rattle.std.proofs.Common.{◌≤◌, length}
 use Rattle.cuttings.proofs.feed.Given as goal
 
-abbrev pub invariant-loop-turns : goal.invariant-loop-turns
-invariant-loop-turns l =
-    ((length l.room ≡ length l.initial.room) × (length l.got ≡ length l.initial.got))
-    × ((l.at ≤ length l.got) × (l.from ≤ length l.bytes))
-
-abbrev pub decreases-loop-turns : goal.decreases-loop-turns
-decreases-loop-turns l = l.turns
+abbrev pub invariant-loop : goal.invariant-loop
+invariant-loop l = (l.at ≤ length l.got) × (l.from ≤ length l.bytes)

@@ -3,28 +3,32 @@ use Rattle.paper.specs.Tag.{family_of}
 use Rattle.ffi.proofs.Parts.{shown_part, shown_nothing}
 use Rattle.ffi.proofs.dawnstook_candidate.Goals as goal
 
-pub returns-in-At-clause-value : goal.returns-in-At-clause-value
+pub returns-in-Ok-clause-value : goal.returns-in-Ok-clause-value
 unfolding family_of
-returns-in-At-clause-value c =
+returns-in-Ok-clause-value c =
     let a = c.args in
-    (shown_part a.sat a.kind a.cop a.week a.time a.room.now _ c.candidate_shown.ensures _ c.in-At.is _ _
+    rw (← c.new-mack.ensures.0, ← c.new-mack.ensures.1)
+    (shown_part a.sat a.kind a.cop _ _ a.room.now _ c.candidate_shown.ensures _ c.in-Ok.is _ _
     c.data_at.ensures c.bytes_of.ensures).0
 
-pub returns-in-At-clause-room_value : goal.returns-in-At-clause-room_value
+pub returns-in-Ok-clause-room_value : goal.returns-in-Ok-clause-room_value
 unfolding family_of
-returns-in-At-clause-room_value c =
+returns-in-Ok-clause-room_value c =
     let a = c.args in
-    (shown_part a.sat a.kind a.cop a.week a.time a.room.now _ c.candidate_shown.ensures _ c.in-At.is _ _
+    rw (← c.new-mack.ensures.0, ← c.new-mack.ensures.1)
+    (shown_part a.sat a.kind a.cop _ _ a.room.now _ c.candidate_shown.ensures _ c.in-Ok.is _ _
     c.data_at.ensures c.bytes_of.ensures).1
 
-pub returns-in-Refused-clause-value : goal.returns-in-Refused-clause-value
-returns-in-Refused-clause-value c =
+pub returns-in-Err-clause-value : goal.returns-in-Err-clause-value
+returns-in-Err-clause-value c =
     let a = c.args in
-    (shown_nothing a.sat a.kind a.cop a.week a.time a.room.now _ c.candidate_shown.ensures _ c.in-Refused.is _
-    c.number.ensures).0
+    rw (← c.new-mack.ensures.0, ← c.new-mack.ensures.1)
+    (shown_nothing a.sat a.kind a.cop _ _ a.room.now _ c.candidate_shown.ensures _ c.in-Err.is _
+    c.from.ensures).0
 
-pub returns-in-Refused-clause-room_value : goal.returns-in-Refused-clause-room_value
-returns-in-Refused-clause-room_value c =
+pub returns-in-Err-clause-room_value : goal.returns-in-Err-clause-room_value
+returns-in-Err-clause-room_value c =
     let a = c.args in
-    (shown_nothing a.sat a.kind a.cop a.week a.time a.room.now _ c.candidate_shown.ensures _ c.in-Refused.is _
-    c.number.ensures).1
+    rw (← c.new-mack.ensures.0, ← c.new-mack.ensures.1)
+    (shown_nothing a.sat a.kind a.cop _ _ a.room.now _ c.candidate_shown.ensures _ c.in-Err.is _
+    c.from.ensures).1

@@ -15,7 +15,7 @@ pub returns : goal.returns
 returns c =
     let a = c.args in
     let there = (placed_there Timing a.sat a.room.now c.place-placed.result c.place-placed.ensures.0 c.place-placed.ensures.1).1 in
-    let h = c.head_of-head.ensures ∙ ap head_handed c.place-placed.ensures.0 in
+    let h = c.from-head.ensures ∙ ap head_handed c.place-placed.ensures.0 in
     let o = c.timing_of-all.ensures ∙ ap timing_from (c.part_placed.ensures ∙ there) in
     λ i.
     record {

@@ -4,10 +4,11 @@ use Rattle.fields.proofs.Shifts.{forty_bits}
 use Rattle.fields.proofs.five_bytes.Goals as goal
 
 pub returns : goal.returns
-returns c =
-    let a = c.args in
-    let is = forty_bits a.s.now (λ i. (c.shared_slice_known-1.given i).fits) a.j c.byte_or_zero.result c.byte_or_zero-2.result c.byte_or_zero-3.result in (
-      is c.byte_or_zero-4.result c.byte_or_zero-5.result c.byte_or_zero.ensures.0 c.byte_or_zero-2.ensures.0 c.byte_or_zero-3.ensures.0
-          c.byte_or_zero-4.ensures.0 c.byte_or_zero-5.ensures.0,
-      omega arith,
-    )
+returns x =
+    let a = x.byte_or_zero-a in
+    let b = x.byte_or_zero-b in
+    let c = x.byte_or_zero-c in
+    let d = x.byte_or_zero-d in
+    let e = x.byte_or_zero-e in
+    let is = forty_bits x.args.s.now (λ i. (x.type_inv.s i).fits) x.args.j a.result b.result c.result d.result e.result a.ensures b.ensures c.ensures d.ensures e.ensures in
+    (omega (arith, is, x.from_be_bytes.ensures), omega (arith, x.from_be_bytes.ensures))

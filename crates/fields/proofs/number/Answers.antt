@@ -7,5 +7,5 @@ use Rattle.fields.proofs.number.Goals as goal
 pub returns : goal.returns
 returns c =
     let a = c.args in
-    let is = inside a.s.now (λ i. (c.shared_slice_known-1.given i).fits) a.o a.w c.five_bytes-v.result (omega arith) c.five_bytes-v.ensures.0 in
+    let is = inside a.s.now (λ i. (c.type_inv.s i).fits) a.o a.w c.five_bytes-v.result (omega arith) c.five_bytes-v.ensures.0 in
     (is, rw is (bits_small a.s.now a.o a.w))

@@ -6,7 +6,7 @@ use mir.Syntax.{w32}
 use mir.Val.{to_z}
 use mir.Facts.{to_z-of_z, to_z_pos}
 use Rattle.paper.specs.Field.{signed as twos, value_of}
-use Rattle.signs.proofs.MinusOne.{minus_one, minus_one_fits}
+use Rattle.fields.proofs.MinusOne.{minus_one, minus_one_fits}
 use Rattle.fields.proofs.Shifts.{turned, turned_fits, high_is}
 use Rattle.fields.proofs.signed.Goals as goal
 

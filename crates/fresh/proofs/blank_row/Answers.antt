@@ -15,7 +15,7 @@ unfolding blank_row
 returns c =
     let args = c.args in
     let row = args.row.now in
-    let zeros = c.fill.ensures ∙ ap (λ (k : ℕ). replicate k 0) (length_part 0 head_size row (omega arith)) in
+    let zeros = c.fill.ensures.after (λ y e. e) ∙ ap (λ (k : ℕ). replicate k 0) (length_part 0 head_size row (omega arith)) in
     c.blank_slots.ensures
     ∙ ap (on_parts (λ (_ : List ℕ). blank_slot) slot_size args.n head_size)
     (part_back (λ (_ : List ℕ). replicate head_size 0) 0 head_size head_size row _ refl zeros)

@@ -4,4 +4,4 @@ use Rattle.fresh.proofs.Blank.{header_put}
 use Rattle.fresh.proofs.put_header.Goals as goal
 
 pub returns : goal.returns
-returns c = header_put _ _ _ c.args.room.now _ (omega arith) c.fill.ensures
+returns c = header_put _ _ _ c.args.room.now _ (omega arith) (c.fill.ensures.after (λ y e. e))

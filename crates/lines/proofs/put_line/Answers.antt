@@ -9,7 +9,7 @@ pub returns : goal.returns
 unfolding line_of
 returns c =
     let letter = rw c.letter-letter.ensures at c.put_bytes-lettered.ensures in
-    let digits = rw c.number.ensures at c.put_decimal-numbered.ensures.0 in
+    let digits = rw (c.from.ensures, c.number_of.ensures) at c.put_decimal-numbered.ensures.0 in
     let text = put_then letter (put_then digits (put_then c.put_values-said.ensures.0 c.put_bytes.ensures)) in
     let within = c.put_values-said.ensures.1 in
     (text, omega (arith, letter.place, letter_two c.args.kind, c.put_decimal-numbered.ensures.1, within, c.put_bytes.ensures.place, c.requires.1))

@@ -4,4 +4,4 @@ use Rattle.navmessage.proofs.Replies.{fed_passed}
 use Rattle.navmessage.proofs.feed.Goals as goal
 
 pub feed_word-requires : goal.feed_word-requires
-feed_word-requires c = fed_passed _ _ _ _ _ _ (does _ _ _ c.in_default.is c.feed_entry-reply.ensures)
+feed_word-requires c = fed_passed _ _ _ _ _ _ (does _ _ _ c.in_ok-feed_entry.was c.feed_entry.ensures)

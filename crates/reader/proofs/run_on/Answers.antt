@@ -1,17 +1,17 @@
--- `run_on`: the turns that are left fall, and each that went on brought a byte at least.
-use native.Mathlib.Omega.{arith}
+-- `run_on`: each turn that went on brought a byte at least.
 use mathlib.Core.Path.{refl}
+use Prim.Native.Nat.{◌+◌}
+use Rattle.reader.specs.Turns.{most_turns}
 use Rattle.reader.proofs.Heard.{turned_begun, turned_on, turned_stop}
 use Rattle.reader.proofs.run_on.Goals as goal
-use borrow.Author.Rules.{rules}
 
-pub loop-turns-init : goal.loop-turns-init
-loop-turns-init c = (refl, (omega arith, turned_begun _ _ _ (omega arith) c.requires.0))
+pub loop-init : goal.loop-init
+loop-init c = turned_begun 0 _ _ refl c.requires.0
 
 pub returns-in_default : goal.returns-in_default
-returns-in_default c = turned_stop _ _ _ _ _ _ _ _ _ c.in_default.not-More c.loop-turns.invariant.1.1 c.turn-came.ensures
+returns-in_default c = turned_stop _ _ most_turns _ _ _ _ _ _ c.in_default.not-More c.loop.invariant c.turn-came.ensures
 
-pub loop-turns-preserved : goal.loop-turns-preserved
-loop-turns-preserved c =
-    let h = c.loop-turns.invariant in
-    (search rules, (omega (arith, h.1.0), turned_on _ _ _ _ _ _ _ _ _ c.in-More.is (omega (arith, h.1.0)) h.1.1 c.turn-came.ensures))
+pub loop-preserved : goal.loop-preserved
+loop-preserved c =
+    let h = c.loop in
+    turned_on _ h.counter (h.counter + 1) _ _ _ _ _ _ c.in-More.is refl h.invariant c.turn-came.ensures

@@ -1,7 +1,7 @@
 -- `take`: what is left is offered again and again, and each time less is left; while the reader goes on its number is 0.
 use native.Mathlib.Omega.{arith}
 use mathlib.Core.Path.{refl, ◌∙◌}
-use Rattle.reader.proofs.Offered.{offer_begun, fits, some, offer_more, offer_some, on, over, all_taken}
+use Rattle.reader.proofs.Offered.{offer_begun, fits, some, offer_more, offer_some, on, over}
 use Rattle.reader.proofs.take.Goals as goal
 
 pub loop-at-init : goal.loop-at-init

@@ -1,9 +1,0 @@
--- `steps`: the steps that are left fall.
-use Rattle.std.proofs.Common.{◌≡◌, length}
-use Rattle.cuttings.proofs.steps.Given as goal
-
-abbrev pub invariant-loop-left : goal.invariant-loop-left
-invariant-loop-left l = length l.room ≡ length l.initial.room
-
-abbrev pub decreases-loop-left : goal.decreases-loop-left
-decreases-loop-left l = l.left

@@ -1,9 +1,0 @@
--- `is_untouched`: the bytes that are left fall.
-use Rattle.std.proofs.Common.{◌-◌, ◌≤◌, length}
-use Rattle.messages.proofs.is_untouched.Given as goal
-
-abbrev pub invariant-loop-i : goal.invariant-loop-i
-invariant-loop-i l = l.i ≤ length l.buffer
-
-abbrev pub decreases-loop-i : goal.decreases-loop-i
-decreases-loop-i l = length l.buffer - l.i

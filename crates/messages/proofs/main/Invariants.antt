@@ -1,5 +1,0 @@
--- `main`: the items that are left fall.
-use Rattle.messages.proofs.main.Given as goal
-
-abbrev pub decreases-loop-left : goal.decreases-loop-left
-decreases-loop-left l = l.left
