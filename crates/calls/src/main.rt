@@ -15,6 +15,7 @@ use layout::{
 use navmessage::Reading;
 use records::{AGES_AT, COUNT_AT, Ced, Timing};
 use refusals::Refusal;
+use std::fmt::Display;
 use std::io;
 use svn::Svn;
 
@@ -58,32 +59,52 @@ fn text(rt: HostRuntime, letters: &[u8]) {
     heard(rt, rt.write_all(letters));
 }
 
+// A space and a number.
+// kept: each piece is a write of its own, as before, so that what gets out where one fails stays what it was
+fn number<N: Display + Drop>(rt: HostRuntime, n: N) {
+    text(rt, b" ");
+    heard(rt, print!(rt; "{n}"));
+}
+
+// How many bytes, and their Adler-32.
+fn sized(rt: HostRuntime, bytes: &[u8]) {
+    number(rt, bytes.len());
+    number(rt, adler::adler32(bytes));
+}
+
 fn part(rt: HostRuntime, bytes: &[u8]) {
-    let length = bytes.len();
-    let sum = adler::adler32(bytes);
-    heard(rt, print!(rt; ", part {length} {sum}"));
+    text(rt, b", part");
+    sized(rt, bytes);
 }
 
 fn end(rt: HostRuntime, room: &[u8]) {
-    let sum = adler::adler32(room);
-    heard(rt, println!(rt; " # {sum}"));
+    text(rt, b" #");
+    number(rt, adler::adler32(room));
+    text(rt, b"\n");
+}
+
+fn time(rt: HostRuntime, gst: Gst) {
+    number(rt, gst.wn.0);
+    number(rt, gst.tow.0);
 }
 
 fn refused(rt: HostRuntime, why: Refusal) {
-    let number = u8::from(why);
-    heard(rt, print!(rt; " {number}"));
+    number(rt, u8::from(why));
 }
 
 fn reply(rt: HostRuntime, reply: Result<(), Refusal>) {
     match reply {
-        Ok(()) => text(rt, b" 0"),
+        Ok(()) => number(rt, 0),
         Err(why) => refused(rt, why),
     }
 }
 
 fn tagged(rt: HostRuntime, tagged: Result<u32, Refusal>) {
     match tagged {
-        Ok(records) => heard(rt, print!(rt; " 0 {records}")),
+        Ok(records) => {
+            number(rt, 0);
+            number(rt, records);
+        }
         Err(why) => refused(rt, why),
     }
 }
@@ -92,17 +113,20 @@ fn tagged(rt: HostRuntime, tagged: Result<u32, Refusal>) {
 fn asked(rt: HostRuntime, asked: Result<Reading, Refusal>) {
     match asked {
         Ok(reading) => {
-            let authbits = reading.authbits;
-            let week = reading.gst.wn.0;
-            let time = reading.gst.tow.0;
-            heard(rt, print!(rt; " 0 {authbits} {week} {time}"));
+            number(rt, 0);
+            number(rt, reading.authbits);
+            time(rt, reading.gst);
         }
         Err(why) => refused(rt, why),
     }
 }
 
 fn fresh(rt: HostRuntime, room: &mut [u8; ROOM], d: u8, n: u8, rule: u8) {
-    heard(rt, print!(rt; "fresh {d} {n} {rule}:"));
+    text(rt, b"fresh");
+    number(rt, d);
+    number(rt, n);
+    number(rt, rule);
+    text(rt, b":");
     reply(rt, navmessage::fresh(room, d, n, rule));
     end(rt, room);
 }
@@ -117,12 +141,13 @@ fn feed(
     band: u8,
 ) {
     let gst = Gst::new(week, tow);
-    let length = word.len();
-    let sum = adler::adler32(word);
-    heard(
-        rt,
-        print!(rt; "feed {svn} {week} {tow} {band} word {length} {sum}:"),
-    );
+    text(rt, b"feed");
+    number(rt, svn);
+    time(rt, gst);
+    number(rt, band);
+    text(rt, b" word");
+    sized(rt, word);
+    text(rt, b":");
     reply(rt, navmessage::feed(room, word, Svn(svn), gst, band));
     end(rt, room);
 }
@@ -147,12 +172,16 @@ fn tag(
     given: &[u8],
 ) {
     let mack = Gst::new(week, tow);
-    let length = given.len();
-    let sum = adler::adler32(given);
-    heard(
-        rt,
-        print!(rt; "tag {svn} {kind} {cop} {bits} {status} {week} {tow} given {length} {sum}:"),
-    );
+    text(rt, b"tag");
+    number(rt, svn);
+    number(rt, kind);
+    number(rt, cop);
+    number(rt, bits);
+    number(rt, status);
+    time(rt, mack);
+    text(rt, b" given");
+    sized(rt, given);
+    text(rt, b":");
     tagged(
         rt,
         navmessage::tag(room, Svn(svn), kind, cop, bits, status, mack, given, true),
@@ -172,10 +201,12 @@ fn tag_no(
     given: &[u8],
 ) {
     let mack = Gst::new(week, tow);
-    heard(
-        rt,
-        print!(rt; "tag with the verdict no {svn} {kind} {cop} {status}:"),
-    );
+    text(rt, b"tag with the verdict no");
+    number(rt, svn);
+    number(rt, kind);
+    number(rt, cop);
+    number(rt, status);
+    text(rt, b":");
     tagged(
         rt,
         navmessage::tag(room, Svn(svn), kind, cop, 40, status, mack, given, false),
@@ -185,7 +216,12 @@ fn tag_no(
 
 fn candidate(rt: HostRuntime, room: &[u8; ROOM], svn: u8, kind: u8, cop: u8, week: u16, tow: u32) {
     let mack = Gst::new(week, tow);
-    heard(rt, print!(rt; "candidate {svn} {kind} {cop} {week} {tow}:"));
+    text(rt, b"candidate");
+    number(rt, svn);
+    number(rt, kind);
+    number(rt, cop);
+    time(rt, mack);
+    text(rt, b":");
     reply(rt, navmessage::candidate(room, Svn(svn), kind, cop, mack));
     part(
         rt,
@@ -195,11 +231,15 @@ fn candidate(rt: HostRuntime, room: &[u8; ROOM], svn: u8, kind: u8, cop: u8, wee
 }
 
 fn ask(rt: HostRuntime, room: &[u8; ROOM], svn: u8) {
-    heard(rt, print!(rt; "ask for CED {svn}:"));
+    text(rt, b"ask for CED");
+    number(rt, svn);
+    text(rt, b":");
     asked(rt, navmessage::get_ced_and_status(room, Svn(svn)));
     part(rt, navmessage::ced_and_status_data(room, Svn(svn)));
     end(rt, room);
-    heard(rt, print!(rt; "ask for timing {svn}:"));
+    text(rt, b"ask for timing");
+    number(rt, svn);
+    text(rt, b":");
     asked(rt, navmessage::get_timing_parameters(room, Svn(svn)));
     part(rt, navmessage::timing_parameters_data(room, Svn(svn)));
     end(rt, room);
@@ -259,7 +299,11 @@ fn write(room: &mut [u8; ROOM], place: usize, value: u8) {
 fn spoilt(rt: HostRuntime, room: &mut [u8; ROOM], place: usize, value: u8) {
     let old = numbers::byte_or_zero(room, place);
     write(room, place, value);
-    heard(rt, print!(rt; "byte {place} is {value}:"));
+    text(rt, b"byte");
+    number(rt, place);
+    text(rt, b" is");
+    number(rt, value);
+    text(rt, b":");
     every(rt, room);
     write(room, place, old);
 }
@@ -267,7 +311,11 @@ fn spoilt(rt: HostRuntime, room: &mut [u8; ROOM], place: usize, value: u8) {
 // A fresh store on a room that is a byte short of D 2 and N 2.
 fn fresh_short(rt: HostRuntime, d: u8, n: u8, rule: u8) {
     let mut room = [7; STORE - 1];
-    heard(rt, print!(rt; "fresh on a byte less {d} {n} {rule}:"));
+    text(rt, b"fresh on a byte less");
+    number(rt, d);
+    number(rt, n);
+    number(rt, rule);
+    text(rt, b":");
     reply(rt, navmessage::fresh(&mut room, d, n, rule));
     end(rt, &room);
 }
@@ -653,8 +701,7 @@ fn one_gone(rt: HostRuntime, room: &mut [u8; ROOM], v: u8) {
             0,
         ),
     );
-    let age = room[TIMING_0 + AGES_AT];
-    heard(rt, print!(rt; " {age}"));
+    number(rt, room[TIMING_0 + AGES_AT]);
 }
 
 // A word 1 of ones.

@@ -78,8 +78,8 @@ fn last_oldest(row: &[u8], timing: bool, n: usize) -> usize
     oldest
 }
 
-// STORE 10.5, in three cases: the slot of the record of a family that a word of the satellite goes to.
-pub fn choose(row: &[u8], timing: bool, n: usize, sat: u8) -> usize
+// STORE 10.5, in three cases, the last of equals in each: the satellite's own slot, one without a satellite, the oldest.
+fn three_cases(row: &[u8], timing: bool, n: usize, sat: u8) -> usize
     requires { (1 ≤ n) × (n ≤ most_slots) × (row_size n ≤ length row.now) }
     ensures { (result ≡ chosen (family_if timing) sat n row.now) × (result < n) }
 {
@@ -91,4 +91,12 @@ pub fn choose(row: &[u8], timing: bool, n: usize, sat: u8) -> usize
         return unclaimed;
     }
     last_oldest(row, timing, n)
+}
+
+// The slot of the record of a family that a word of the satellite goes to.
+pub fn choose(row: &[u8], timing: bool, n: usize, sat: u8) -> usize
+    requires { (1 ≤ n) × (n ≤ most_slots) × (row_size n ≤ length row.now) }
+    ensures { (result ≡ chosen (family_if timing) sat n row.now) × (result < n) }
+{
+    three_cases(row, timing, n, sat)
 }

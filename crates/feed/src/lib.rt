@@ -13,6 +13,7 @@ ghost use Rattle.paper.specs.Feed.{fed_family, fed_row, fed_current, fed};
 use gst::Gst;
 
 // The record of a family that a word of the satellite goes to takes it, lent as a slice of the row.
+#[tactic(auto, using(crate::proofs::Fed::fed_back))]
 fn feed_family(row: &mut [u8], n: usize, timing: bool, sat: u8, band: u8, word: &[u8])
     requires { (1 ≤ n) × (n ≤ most_slots) × (row_size n ≤ length row.old) × (length word.now ≡ word_bytes) }
     ensures { row.new ≡ fed_family (family_if timing) n sat band word.now row.old }

@@ -2,11 +2,15 @@
 use mathlib.Core.Bool.{Bool}
 use mathlib.Core.Path.{◌≡◌, sym, ◌∙◌}
 use Prim.Native.Nat.{ℕ, ◌<◌}
-use Rattle.std.specs.Prelude.{Option}
-use Rattle.lookup.specs.Found.{FindsFirst}
 use borrow.Fn.Kinds.{res_t, ended_of, Dens}
 use denote.Triple.Clauses.{AtExit}
 use contract.Lifetimes.{Lfts}
+use denote.RattleType.{RattleType}
+use denote.Param.Laws.{Laws}
+use mir.Syntax.{Dict}
+use Rattle.lookup.specs.contracts.first.F-Fn.{Ghosts, words}
+use Rattle.lookup.proofs.first.Reads as first_reads
+use Rattle.lookup.proofs.first.Kinds as first_kinds
 use Rattle.lookup.proofs.row_marked.Reads as row_marked_reads
 use Rattle.lookup.proofs.row_marked.Kinds as row_marked_kinds
 use Rattle.lookup.proofs.slot_of.Reads as slot_of_reads
@@ -48,9 +52,17 @@ pub candidate_at_determined :
     → candidate_at_reads.Post κs a r e → candidate_at_reads.Post κs a r' e' → r ≡ r'
 candidate_at_determined κs a r r' e e' p q = p ∙ sym q
 
--- what `first` promises of a question that each number below n has one answer to
+-- where each number below n has one answer of the closure that is lent
 pub first_determined :
-    (answered : ℕ → Bool → Type 0) (n : ℕ) (p : ℕ → Bool) →
-    ((i : ℕ) (b : Bool) → i < n → answered i b → b ≡ p i) →
-    (r r' : Option ℕ) → FindsFirst answered n r → FindsFirst answered n r' → r ≡ r'
-first_determined answered n p says r r' a b = a p says ∙ sym (b p says)
+    (F : RattleType)
+    (L : Laws F)
+    (G : Ghosts F)
+    (d1 d2 d3 d4 : Dict)
+    (κs : Lfts 1)
+    (a : Dens κs (first_kinds.ps F L))
+    (r r' : (res_t (first_kinds.r F L) κs).Denot)
+    (e e' : AtExit (ended_of 1 (first_kinds.ps F L) (first_kinds.r F L)) κs)
+    (p : ℕ → Bool)
+    → ((i : ℕ) (b : Bool) → i < a.0 → (words F G).post a.1.0 i b → b ≡ p i)
+    → first_reads.Post F L G d1 d2 d3 d4 κs a r e → first_reads.Post F L G d1 d2 d3 d4 κs a r' e' → r ≡ r'
+first_determined F L G d1 d2 d3 d4 κs a r r' e e' p says x y = x p says ∙ sym (y p says)

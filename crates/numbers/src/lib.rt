@@ -1,8 +1,31 @@
-// Numbers in bytes: big-endian ones (STORE 7.2), two and four bytes of a slice, read and written, and a byte that may lie past the end.
+// Bytes as wider numbers, and numbers in bytes: big-endian ones (STORE 7.2), two and four bytes of a slice, read and written, and a byte
+// that may lie past the end.
+// kept: three functions over the library's `From`, since docs/PROMISES.md has them and their theorems
 #![tactic(auto)]
 
-ghost use Rattle.std.specs.Prelude.{◌≡◌, ◌+◌, ◌≤◌, length, get_or};
+ghost use Rattle.std.specs.Prelude.{◌≡◌, ◌+◌, ◌≤◌, ◌<◌, length, get_or};
 ghost use Rattle.paper.specs.Big.{be16, be32, put16, put32};
+
+// A byte as a number of 16 bits.
+pub fn as_u16(x: u8) -> u16
+    ensures { (result ≡ x) × (result < 256) }
+{
+    u16::from(x)
+}
+
+// A byte as a number of 32 bits.
+pub fn as_u32(x: u8) -> u32
+    ensures { (result ≡ x) × (result < 256) }
+{
+    u32::from(x)
+}
+
+// A byte as a length or an index.
+pub fn as_usize(x: u8) -> usize
+    ensures { (result ≡ x) × (result < 256) }
+{
+    usize::from(x)
+}
 
 // Byte j, or 0 past the end: behind the last bits of a slice every bit is 0.
 pub fn byte_or_zero(s: &[u8], j: usize) -> u8

@@ -25,23 +25,48 @@ fn heard(rt: HostRuntime, written: io::Result<()>) {
     }
 }
 
+// kept: each piece is a write of its own, as before, so that what gets out where one fails stays what it was
+fn text(rt: HostRuntime, letters: &[u8]) {
+    heard(rt, rt.write_all(letters));
+}
+
+fn decimal(rt: HostRuntime, n: u32) {
+    heard(rt, print!(rt; "{n}"));
+}
+
+// A space and a number.
+fn whole(rt: HostRuntime, n: u32) {
+    text(rt, b" ");
+    decimal(rt, n);
+}
+
+// A space and a number that may be below 0.
+fn signed(rt: HostRuntime, n: i32) {
+    text(rt, b" ");
+    if n < 0 {
+        text(rt, b"-");
+    }
+    decimal(rt, n.unsigned_abs());
+}
+
 // A space and the bits of a double. A NaN has none to print; no field is one (STORE 20.4), and it would show.
 fn double(rt: HostRuntime, x: f64) {
     if x.is_nan() {
-        heard(rt, print!(rt; " NaN"));
+        text(rt, b" NaN");
         return;
     }
+    text(rt, b" ");
     let bits = x.to_bits();
-    heard(rt, print!(rt; " {bits:0DIGITS$x}"));
+    heard(rt, print!(rt; "{bits:0DIGITS$x}"));
 }
 
 // A line of doubles.
 fn doubles(rt: HostRuntime, numbers: &[f64]) {
-    heard(rt, print!(rt; "d"));
+    text(rt, b"d");
     for &x in numbers {
         double(rt, x);
     }
-    heard(rt, println!(rt; ""));
+    text(rt, b"\n");
 }
 
 // What prints as lines.
@@ -52,102 +77,102 @@ trait Lines {
 // kept: one for each word, since the words differ in their fields; no `impl Display`, since `fields` and `orbit` print nothing
 impl Lines for Word1 {
     fn put(self, rt: HostRuntime) {
-        heard(
-            rt,
-            println!(rt;
-                "1 {} {} {} {} {}",
-                self.iodnav, self.t0e, self.m0, self.e, self.root_a
-            ),
-        );
+        text(rt, b"1");
+        whole(rt, self.iodnav);
+        whole(rt, self.t0e);
+        signed(rt, self.m0);
+        whole(rt, self.e);
+        whole(rt, self.root_a);
+        text(rt, b"\n");
     }
 }
 
 impl Lines for Word2 {
     fn put(self, rt: HostRuntime) {
-        heard(
-            rt,
-            println!(rt;
-                "2 {} {} {} {} {}",
-                self.iodnav, self.omega0, self.i0, self.omega, self.i_dot
-            ),
-        );
+        text(rt, b"2");
+        whole(rt, self.iodnav);
+        signed(rt, self.omega0);
+        signed(rt, self.i0);
+        signed(rt, self.omega);
+        signed(rt, self.i_dot);
+        text(rt, b"\n");
     }
 }
 
 impl Lines for Word3 {
     fn put(self, rt: HostRuntime) {
-        heard(
-            rt,
-            println!(rt;
-                "3 {} {} {} {} {} {} {} {}",
-                self.iodnav,
-                self.omega_dot,
-                self.delta_n,
-                self.cuc,
-                self.cus,
-                self.crc,
-                self.crs,
-                self.sisa
-            ),
-        );
+        text(rt, b"3");
+        whole(rt, self.iodnav);
+        signed(rt, self.omega_dot);
+        signed(rt, self.delta_n);
+        signed(rt, self.cuc);
+        signed(rt, self.cus);
+        signed(rt, self.crc);
+        signed(rt, self.crs);
+        whole(rt, self.sisa);
+        text(rt, b"\n");
     }
 }
 
 impl Lines for Word4 {
     fn put(self, rt: HostRuntime) {
-        heard(
-            rt,
-            println!(rt;
-                "4 {} {} {} {} {} {} {} {}",
-                self.iodnav, self.svid, self.cic, self.cis, self.t0c, self.af0, self.af1, self.af2
-            ),
-        );
+        text(rt, b"4");
+        whole(rt, self.iodnav);
+        whole(rt, self.svid);
+        signed(rt, self.cic);
+        signed(rt, self.cis);
+        whole(rt, self.t0c);
+        signed(rt, self.af0);
+        signed(rt, self.af1);
+        signed(rt, self.af2);
+        text(rt, b"\n");
     }
 }
 
 impl Lines for Word5 {
     fn put(self, rt: HostRuntime) {
-        heard(
-            rt,
-            println!(rt;
-                "5 {} {} {} {} {} {} {} {} {} {} {} {} {} {}",
-                self.ai0,
-                self.ai1,
-                self.ai2,
-                self.region1,
-                self.region2,
-                self.region3,
-                self.region4,
-                self.region5,
-                self.bgd_e1_e5a,
-                self.bgd_e1_e5b,
-                self.e5b_health,
-                self.e1b_health,
-                self.e5b_validity,
-                self.e1b_validity
-            ),
-        );
+        text(rt, b"5");
+        whole(rt, self.ai0);
+        signed(rt, self.ai1);
+        signed(rt, self.ai2);
+        whole(rt, self.region1);
+        whole(rt, self.region2);
+        whole(rt, self.region3);
+        whole(rt, self.region4);
+        whole(rt, self.region5);
+        signed(rt, self.bgd_e1_e5a);
+        signed(rt, self.bgd_e1_e5b);
+        whole(rt, self.e5b_health);
+        whole(rt, self.e1b_health);
+        whole(rt, self.e5b_validity);
+        whole(rt, self.e1b_validity);
+        text(rt, b"\n");
     }
 }
 
 impl Lines for Word6 {
     fn put(self, rt: HostRuntime) {
-        heard(
-            rt,
-            println!(rt;
-                "6 {} {} {} {} {} {} {} {}",
-                self.a0, self.a1, self.dt_ls, self.t0t, self.wn0t, self.wn_lsf, self.dn, self.dt_lsf
-            ),
-        );
+        text(rt, b"6");
+        signed(rt, self.a0);
+        signed(rt, self.a1);
+        signed(rt, self.dt_ls);
+        whole(rt, self.t0t);
+        whole(rt, self.wn0t);
+        whole(rt, self.wn_lsf);
+        whole(rt, self.dn);
+        signed(rt, self.dt_lsf);
+        text(rt, b"\n");
     }
 }
 
 impl Lines for Word10 {
     fn put(self, rt: HostRuntime) {
-        heard(
-            rt,
-            println!(rt; "10 {} {} {} {}", self.a0g, self.a1g, self.t0g, self.wn0g),
-        );
+        text(rt, b"10");
+        signed(rt, self.a0g);
+        signed(rt, self.a1g);
+        whole(rt, self.t0g);
+        whole(rt, self.wn0g);
+        text(rt, b"\n");
     }
 }
 
@@ -209,25 +234,29 @@ impl Lines for TimingNumbers {
     }
 }
 
+// The number of a line, and its end.
+fn number(rt: HostRuntime, n: u8) {
+    whole(rt, n.into());
+    text(rt, b"\n");
+}
+
 // What reading numbers answered, behind its letter.
-fn said<T: Lines>(rt: HostRuntime, letter: &str, got: Result<Got<T>, Refusal>) {
+fn said<T: Lines>(rt: HostRuntime, letter: &[u8], got: Result<Got<T>, Refusal>) {
+    text(rt, letter);
     match got {
         Ok(read) => {
-            heard(rt, println!(rt; "{letter} 0"));
+            number(rt, 0);
             read.numbers.put(rt);
         }
-        Err(why) => {
-            let number = u8::from(why);
-            heard(rt, println!(rt; "{letter} {number}"));
-        }
+        Err(why) => number(rt, why.into()),
     }
 }
 
 // What stands behind the line of an item of this kind.
 fn behind(rt: HostRuntime, room: &[u8], kind: Kind, svn: Svn) {
     match kind {
-        Kind::Ced => said(rt, "o", orbit::get_orbit(room, svn)),
-        Kind::Timing => said(rt, "u", orbit::get_timing_numbers(room, svn)),
+        Kind::Ced => said(rt, b"o", orbit::get_orbit(room, svn)),
+        Kind::Timing => said(rt, b"u", orbit::get_timing_numbers(room, svn)),
         _ => {}
     }
 }
@@ -238,7 +267,7 @@ fn line(rt: HostRuntime, room: &mut [u8], kind: Kind, body: &[u8])
 {
     let mut out = [0u8; LONGEST_LINE];
     let end = benchlines::answer(room, kind, body, &mut out, 0);
-    heard(rt, rt.write_all(&out[..end]));
+    text(rt, &out[..end]);
 }
 
 // The body of an item from standard input, and its line.

@@ -1,4 +1,5 @@
 pub mod Answers
+pub mod OfTheStore
 pub mod Tight
 pub mod Joined
 pub mod Exports

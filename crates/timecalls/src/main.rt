@@ -6,6 +6,7 @@ ghost use Rattle.std.specs.Prelude.{◌+◌, ◌≤◌, length};
 
 use gst::Gst;
 use refusals::Refusal;
+use std::fmt::Display;
 use std::io;
 use std::io::Read;
 use svn::Svn;
@@ -24,9 +25,17 @@ fn text(rt: HostRuntime, letters: &[u8]) {
     heard(rt, rt.write_all(letters));
 }
 
-// 0 and what is handed back
-fn value(rt: HostRuntime, value: i32) {
-    heard(rt, println!(rt; "0 {value}"));
+// kept: each piece is a write of its own, as before, so that what gets out where one fails stays what it was
+fn number<N: Display + Drop>(rt: HostRuntime, n: N) {
+    heard(rt, print!(rt; "{n}"));
+}
+
+// kept: the sign is a piece of its own, as the number is
+fn signed(rt: HostRuntime, n: i32) {
+    if n < 0 {
+        text(rt, b"-");
+    }
+    number(rt, n.unsigned_abs());
 }
 
 fn refused(rt: HostRuntime, why: Refusal) {
@@ -38,9 +47,11 @@ fn refused(rt: HostRuntime, why: Refusal) {
 fn new_time(rt: HostRuntime, answer: Result<Gst, Refusal>) {
     match answer {
         Ok(gst) => {
-            let week = gst.wn.0;
-            let time = gst.tow.0;
-            heard(rt, println!(rt; "0 {week} {time}"));
+            text(rt, b"0 ");
+            number(rt, gst.wn.0);
+            text(rt, b" ");
+            number(rt, gst.tow.0);
+            text(rt, b"\n");
         }
         Err(why) => refused(rt, why),
     }
@@ -48,14 +59,19 @@ fn new_time(rt: HostRuntime, answer: Result<Gst, Refusal>) {
 
 fn is_start(rt: HostRuntime, answer: Result<bool, Refusal>) {
     match answer {
-        Ok(start) => value(rt, i32::from(start)),
+        Ok(true) => text(rt, b"0 1\n"),
+        Ok(false) => text(rt, b"0 0\n"),
         Err(why) => refused(rt, why),
     }
 }
 
 fn apart(rt: HostRuntime, answer: Result<i32, Refusal>) {
     match answer {
-        Ok(subframes) => value(rt, subframes),
+        Ok(subframes) => {
+            text(rt, b"0 ");
+            signed(rt, subframes);
+            text(rt, b"\n");
+        }
         Err(why) => refused(rt, why),
     }
 }

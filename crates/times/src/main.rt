@@ -4,6 +4,7 @@
 
 use gst::{Chained, Gst};
 use refusals::Refusal;
+use std::fmt::Display;
 use std::io;
 use svn::Svn;
 
@@ -18,17 +19,35 @@ fn text(rt: HostRuntime, letters: &[u8]) {
     heard(rt, rt.write_all(letters));
 }
 
+// kept: each piece is a write of its own, as before, so that what gets out where one fails stays what it was
+fn number<N: Display + Drop>(rt: HostRuntime, n: N) {
+    heard(rt, print!(rt; "{n}"));
+}
+
 // kept a function: a Display of Gst would stand in its crate, and each program writes a time in a form of its own
 fn time(rt: HostRuntime, gst: Gst) {
-    let week = gst.wn.0;
-    let time = gst.tow.0;
-    heard(rt, print!(rt; "({week}, {time})"));
+    text(rt, b"(");
+    number(rt, gst.wn.0);
+    text(rt, b", ");
+    number(rt, gst.tow.0);
+    text(rt, b")");
 }
 
 fn change(rt: HostRuntime, n: i32) {
-    let sign = if n < 0 { '-' } else { '+' };
-    let size = n.unsigned_abs();
-    heard(rt, print!(rt; " {sign} {size}"));
+    if n < 0 {
+        text(rt, b" - ");
+    } else {
+        text(rt, b" + ");
+    }
+    number(rt, n.unsigned_abs());
+}
+
+// kept: the sign is a piece of its own, as in `change`
+fn signed(rt: HostRuntime, n: i32) {
+    if n < 0 {
+        text(rt, b"-");
+    }
+    number(rt, n.unsigned_abs());
 }
 
 fn refused(rt: HostRuntime, why: Refusal) {
@@ -41,10 +60,13 @@ fn new_time(rt: HostRuntime, answer: Result<Gst, Refusal>) {
         Ok(gst) => {
             text(rt, b" = ");
             time(rt, gst);
-            text(rt, b"\n");
         }
-        Err(why) => refused(rt, why),
+        Err(why) => {
+            let number = u8::from(why);
+            heard(rt, print!(rt; ": {number}"));
+        }
     }
+    text(rt, b"\n");
 }
 
 fn seconds(rt: HostRuntime, from: Gst, n: i32) {
@@ -82,13 +104,18 @@ fn difference(rt: HostRuntime, gst: Gst, other: Gst) {
     text(rt, b" against ");
     time(rt, other);
     match gst.subframes_difference(other) {
-        Ok(n) => heard(rt, println!(rt; ": {n} subframes")),
+        Ok(n) => {
+            text(rt, b": ");
+            signed(rt, n);
+            text(rt, b" subframes\n");
+        }
         Err(why) => refused(rt, why),
     }
 }
 
 fn satellite(rt: HostRuntime, n: u8) {
-    heard(rt, print!(rt; "satellite {n}"));
+    text(rt, b"satellite ");
+    number(rt, n);
     match Svn::try_from(n) {
         Ok(svn) => {
             text(rt, b": ");

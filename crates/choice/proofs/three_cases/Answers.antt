@@ -1,7 +1,7 @@
 -- The code goes by the three cases, each by its search, and the slot of the three cases is the chosen one (`three_cases_lem`).
 use Rattle.paper.specs.Record.{family_if}
 use Rattle.choice.proofs.Steps.{found_own, found_unclaimed, found_oldest, by_satellite}
-use Rattle.choice.proofs.choose.Goals as goal
+use Rattle.choice.proofs.three_cases.Goals as goal
 
 pub returns-in-Some : goal.returns-in-Some
 returns-in-Some c =
